@@ -1,0 +1,5 @@
+//! The top call of the loader: from the words after a program's name and a folder to the report on its modules.
+#![tactic(auto)]
+
+pub mod status;
+pub mod verdict;
