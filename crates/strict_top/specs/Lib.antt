@@ -4,3 +4,4 @@ pub mod Verdicts
 pub mod Modules
 pub mod Reports
 pub mod Runs
+pub mod Decided

@@ -1,5 +1,5 @@
 -- The report on modules: a line for each, and a status.
-use Rattle.std.specs.Prelude.{◌≡◌, ℕ, ◌<◌, Bool, true, false, if◌then◌else◌, List, [], ◌∷◌, ◌++◌, codes, Option, Some, None}
+use Rattle.std.specs.Prelude.{◌≡◌, ℕ, ◌<◌, Bool, true, false, if◌then◌else◌, List, [], ◌∷◌, ◌++◌, codes, Option, Some, None, map}
 use Rattle.std.specs.Fmt.{decimal}
 use Rattle.std.specs.List.{list_any, flat_map}
 use Rattle.py_tree.specs.Codes.{printed}
@@ -31,15 +31,29 @@ is_refused (verdict.Refused fault) = true
 abbrev pub verdict_line : List ℕ → Verdict → List ℕ
 verdict_line name verdict = codes "module " ++ name ++ codes " " ++ verdict_text verdict ++ codes "\n"
 
-abbrev pub line_of : Source → List ℕ
-line_of source = verdict_line source.0 (verdict_of source.1)
+-- A module's name, and what it is decided to be.
+abbrev pub Judged : Type 0
+Judged = List ℕ × Verdict
+
+abbrev pub line_of : Judged → List ℕ
+line_of entry = verdict_line entry.0 entry.1
+
+abbrev pub is_refused_module : Judged → Bool
+is_refused_module entry = is_refused entry.1
 
 -- The report on these modules: refused where one of them is.
-abbrev pub report_on : List Source → Report
-report_on sources = record {
-  bytes = flat_map line_of sources;
-  status = if list_any (λ source. is_refused (verdict_of source.1)) sources then Refused else Done;
+abbrev pub report_of : List Judged → Report
+report_of judged = record {
+  bytes = flat_map line_of judged;
+  status = if list_any is_refused_module judged then Refused else Done;
 }
+
+abbrev pub judged : Source → Judged
+judged source = (source.0, verdict_of source.1)
+
+-- The report on modules as they are read.
+abbrev pub report_on : List Source → Report
+report_on sources = report_of (map judged sources)
 
 -- The report where the words aren't taken.
 abbrev pub bad_words : Report
