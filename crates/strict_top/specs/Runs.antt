@@ -1,17 +1,61 @@
--- What a run on a folder reports.
-use Rattle.std.specs.Prelude.{◌≡◌, ℕ, List, [], ◌++◌, Option, Some, None, Result}
-use Rattle.outside.specs.Files.{Told}
+-- What a run on a folder reports, and what each of its answers tells.
+use Rattle.std.specs.Prelude.{◌≡◌, ℕ, List, Option, Some, None, take}
+use Rattle.outside.specs.Bytes.{Appends}
+use Rattle.outside.specs.Faults.{HasRisen}
+use Rattle.outside.specs.Files.{Told, Untold, Missing, Holds}
 use Rattle.strict_top.specs.declared.status.Status.{Status}
 use Rattle.strict_top.specs.declared.status.Status.TheVariants.{Done, Raised, Refused, BadWords, FolderFault, SinkFault, OutOfMemory, TooLarge}
-use Rattle.strict_top.specs.Modules.{Source, AreModules}
+use Rattle.strict_top.specs.Modules.{Source, AreModules, modules}
 use Rattle.strict_top.specs.Reports.{Report, report_on, bad_words}
 use Rattle.strict_top.specs.Words.{directory_of}
 
--- The report of a run whose words name that directory, or aren't taken, over what a folder tells.
-abbrev pub IsReportIn : Option (List ℕ) → (List ℕ → Told) → Report → Type 0
-IsReportIn None told report = report ≡ bad_words
-IsReportIn (Some dir) told report = (sources : List Source) × AreModules (told dir) sources × (report ≡ report_on sources)
+-- The report on a directory, where it is told.
+abbrev pub report_in : Told → Option Report
+report_in Untold = None
+report_in Missing = None
+report_in (Holds files) = Some (report_on (modules files))
 
--- The report of a run with these words. Where the folder tells nothing, it is that on some modules.
+-- The report of words that name that directory, or aren't taken, where what it takes is told.
+abbrev pub report_named : Option (List ℕ) → (List ℕ → Told) → Option Report
+report_named None told = Some bad_words
+report_named (Some dir) told = report_in (told dir)
+
+-- The report that the words and the folder define, where the folder tells its files.
+abbrev pub report_of_run : List (List ℕ) → (List ℕ → Told) → Option Report
+report_of_run words = report_named (directory_of words)
+
+-- A report that a run may write: the one that is told, and else one on some modules.
+abbrev pub IsReportNamed : Option (List ℕ) → (List ℕ → Told) → Report → Type 0
+IsReportNamed None told report = report ≡ bad_words
+IsReportNamed (Some dir) told report = (sources : List Source) × AreModules (told dir) sources × (report ≡ report_on sources)
+
 abbrev pub IsReport : List (List ℕ) → (List ℕ → Told) → Report → Type 0
-IsReport words = IsReportIn (directory_of words)
+IsReport words = IsReportNamed (directory_of words)
+
+-- The answers of a run that came to its end.
+abbrev pub HasEnded : Status → Type 0
+HasEnded FolderFault = ⊥
+HasEnded SinkFault = ⊥
+HasEnded OutOfMemory = ⊥
+HasEnded status = Unit {0}
+
+-- The first bytes of a report of the run were written.
+pub record WritesFront (words : List (List ℕ)) (told : List ℕ → Told) (old new : Option (List ℕ)) : Type 0 where
+  pub report : Report
+  pub is_report : IsReport words told report
+  pub count : ℕ
+  pub written : Appends old new (take count report.bytes)
+
+-- A report of the run was written.
+pub record WritesReport (words : List (List ℕ)) (told : List ℕ → Told) (old new : Option (List ℕ)) (status : Status) : Type 0 where
+  pub report : Report
+  pub is_report : IsReport words told report
+  pub written : Appends old new report.bytes
+  pub answered : status ≡ report.status
+
+-- What is done with a report, by the answer: it is written whole and its status answered, or its first bytes are, and the count of faults tells why.
+abbrev pub Writes : Report → Option (List ℕ) → Option (List ℕ) → ℕ → ℕ → Status → Type 0
+Writes report old new before now FolderFault = ⊥
+Writes report old new before now SinkFault = ((n : ℕ) × Appends old new (take n report.bytes)) × HasRisen before now
+Writes report old new before now OutOfMemory = ((n : ℕ) × Appends old new (take n report.bytes)) × (now ≡ before)
+Writes report old new before now status = Appends old new report.bytes × (status ≡ report.status) × (now ≡ before)

@@ -2,7 +2,7 @@ ghost use Rattle.std.specs.Prelude.{◌≡◌, ◌<◌, ◌≤◌, ℕ, IfOk, On
 ghost use Rattle.std.specs.Option.{ForSome};
 ghost use Rattle.outside.specs.Bytes.{Appends, Takes};
 ghost use Rattle.outside.specs.Faults.{CountsSink};
-ghost use Rattle.strict_top.specs.Reports.{verdict_line, report_of};
+ghost use Rattle.strict_top.specs.Reports.{verdict_line, report_of, is_refused};
 ghost use Rattle.strict_top.specs.Decided.{view_of};
 
 use crate::verdict::Verdict;
@@ -15,6 +15,14 @@ use std::fmt;
 pub(crate) struct Decided {
     pub(crate) name: String,
     pub(crate) verdict: Verdict,
+}
+
+impl Verdict {
+    pub(crate) fn is_refused(self) -> bool
+        ensures { result ≡ is_refused self }
+    {
+        matches!(self, Verdict::Refused(_))
+    }
 }
 
 impl fmt::Display for Verdict {
