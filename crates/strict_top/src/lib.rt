@@ -1,5 +1,6 @@
 //! The top call of the loader: from the words after a program's name and a folder to the report on its modules.
 #![tactic(auto)]
 
+mod assignment;
 pub mod status;
 pub mod verdict;
