@@ -1,2 +1,3 @@
 pub mod LiteralLemmas
 pub mod AssignmentLemmas
+pub mod OnceLemmas

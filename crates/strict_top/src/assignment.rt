@@ -1,12 +1,39 @@
-ghost use Rattle.std.specs.Prelude.{◌≡◌, ◌==◌, ◌&&◌, ◌||◌, ◌<◌, IsTrue, not, length, map, nat_le, nat_eq};
+ghost use Rattle.std.specs.Prelude.{◌≡◌, ◌==◌, ◌&&◌, ◌||◌, ◌<◌, IfSome, IsTrue, not, length, map, position, nat_le, nat_eq};
 ghost use Rattle.std.specs.Char.{is_ascii_alphabetic, is_ascii_alphanumeric, is_ascii_digit};
 ghost use Rattle.std.specs.List.{list_all, list_any, starts_with};
 ghost use Rattle.std.specs.Option.{option_copied};
 ghost use Rattle.std.specs.Str.{bytes_eq};
 ghost use Rattle.std.specs.Str.Parse.{digits_value};
-ghost use Rattle.strict_top.specs.Assignments.{builtins, is_ascii_identifier, is_special, is_literal, greatest_int, bound_by};
+ghost use Rattle.strict_top.specs.Assignments.{builtins, is_ascii_identifier, is_special, is_name, is_literal, greatest_int, bound_by};
 
 use std::str;
+
+/// The name that a line `NAME = INT` binds, or none where the line is no such line.
+pub(crate) fn bound_name(line: &[u8]) -> Option<&[u8]>
+    ensures { option_copied result ≡ bound_by line.now }
+{
+    let (name, rest) = line.split_at(first_space(line)?);
+    let literal = rest.strip_prefix(b" = ")?;
+    if is_name(name) && is_literal(literal) {
+        Some(name)
+    } else {
+        None
+    }
+}
+
+fn first_space(line: &[u8]) -> Option<usize>
+    ensures place { result ≡ position (λ byte. byte == 32) line.now }
+    ensures within { IfSome result (λ place. place < length line.now) }
+{
+    line.iter().position(|byte| *byte == b' ')
+}
+
+/// Whether a line may bind a name: an ASCII identifier that is no keyword, no builtin and no special name.
+fn is_name(name: &[u8]) -> bool
+    ensures { result ≡ is_name name.now }
+{
+    is_ascii_identifier(name) && !is_builtin(name) && !is_special(name)
+}
 
 /// The builtins and exceptions, which no module may bind.
 const BUILTINS: [&[u8]; 32] = [
