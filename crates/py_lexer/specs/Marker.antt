@@ -1,8 +1,7 @@
 -- The marker line, by which a module asks to be loaded under the strict rules.
-use Rattle.std.specs.Prelude.{◌≡◌, ℕ, ◌+◌, ◌-◌, ◌<◌, ◌==◌, ◌&&◌, ◌⊎◌, nat_eq, suc, Bool, List, [], ◌∷◌, ◌++◌, length, take, drop, replicate, codes, Option, Some, None, slice_get}
+use Rattle.std.specs.Prelude.{◌≡◌, ℕ, ◌+◌, ◌-◌, ◌<◌, ◌==◌, ◌&&◌, ◌⊎◌, nat_eq, suc, Bool, List, [], ◌∷◌, ◌++◌, length, drop, replicate, codes, Option, Some, None, slice_get}
 use Rattle.std.specs.Option.{option_map}
 use Rattle.std.specs.List.{before_first, starts_with, list_any, list_all, position, prefix_len}
-use Rattle.std.specs.Str.{bytes_eq}
 use Rattle.std.specs.Str.Lines.{strip_carriage_return}
 use Rattle.py_lexer.specs.Lines.{lines, without_byte_order_mark}
 

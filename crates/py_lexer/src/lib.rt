@@ -3,3 +3,4 @@
 #![tactic(auto)]
 
 pub mod lines;
+pub mod names;
