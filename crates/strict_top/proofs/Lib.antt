@@ -1,3 +1,4 @@
 pub mod LiteralLemmas
 pub mod AssignmentLemmas
 pub mod OnceLemmas
+pub mod LineLemmas

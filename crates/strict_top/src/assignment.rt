@@ -6,6 +6,7 @@ ghost use Rattle.std.specs.Str.{bytes_eq};
 ghost use Rattle.std.specs.Str.Parse.{digits_value};
 ghost use Rattle.strict_top.specs.Assignments.{builtins, is_ascii_identifier, is_special, is_name, is_literal, greatest_int, bound_by};
 
+use py_lexer::names::is_keyword;
 use std::str;
 
 /// The name that a line `NAME = INT` binds, or none where the line is no such line.
@@ -32,7 +33,7 @@ fn first_space(line: &[u8]) -> Option<usize>
 fn is_name(name: &[u8]) -> bool
     ensures { result ≡ is_name name.now }
 {
-    is_ascii_identifier(name) && !is_builtin(name) && !is_special(name)
+    is_ascii_identifier(name) && !is_keyword(name) && !is_builtin(name) && !is_special(name)
 }
 
 /// The builtins and exceptions, which no module may bind.
