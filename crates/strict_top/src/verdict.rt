@@ -1,9 +1,10 @@
-ghost use Rattle.std.specs.Prelude.{◌≡◌, ◌≤◌, ◌==◌, ◌||◌, IfOk, codes, drop, length};
+ghost use Rattle.std.specs.Prelude.{◌≡◌, ◌≤◌, ◌==◌, ◌||◌, None, IfOk, OnErr, length};
 ghost use Rattle.std.specs.Str.{bytes_eq};
-ghost use Rattle.strict_top.specs.Verdicts.{greatest_size, is_bare_marker, is_built, first_unbuilt, globals_of, verdict_of};
+ghost use Rattle.strict_top.specs.Verdicts.{greatest_size, is_bare_marker, is_built, first_unbuilt, globals_of, refused_at, verdict_of};
 
 use indexmap::IndexSet;
 use py_lexer::lines::Lines;
+use py_lexer::marker::marker_line;
 use py_tree::code::Code;
 use py_tree::fault::Fault;
 use std::alloc::{AllocError, Global};
@@ -25,6 +26,30 @@ pub enum Verdict {
     Plain,
     /// It breaks a rule.
     Refused(Fault),
+}
+
+/// Decides a module by its bytes. A file that is too large is refused first; one with no marker is plain; of the others
+/// each line has to be built, or the first that isn't is refused. Memory is taken only where every line is built.
+pub fn decide(alloc: Global, text: &[u8]) -> Result<Verdict, AllocError>
+    ensures verdict { IfOk result (λ verdict. verdict ≡ verdict_of text.now) }
+    ensures memory { OnErr result (first_unbuilt text.now ≡ None) }
+{
+    if text.len() > GREATEST_SIZE {
+        return Ok(refused_at(1, Code::FileTooLarge));
+    }
+    if marker_line(text).is_none() {
+        return Ok(Verdict::Plain);
+    }
+    match first_unbuilt(text) {
+        Some(line) => Ok(refused_at(line, Code::NotBuilt)),
+        None => Ok(Verdict::Published(count_globals(alloc, text)?)),
+    }
+}
+
+fn refused_at(line: u32, code: Code) -> Verdict
+    ensures { result ≡ refused_at line code }
+{
+    Verdict::Refused(Fault { line, code })
 }
 
 /// The number of the first line that isn't built, from 1.
@@ -73,4 +98,58 @@ fn count_globals(alloc: Global, text: &[u8]) -> Result<usize, AllocError>
         }
     }
     Ok(names.len())
+}
+
+#[cfg(test)]
+mod tests {
+    use super::*;
+    use std::test::Fail;
+
+    const TOO_LARGE: Verdict = Verdict::Refused(Fault { line: 1, code: Code::FileTooLarge });
+
+    fn not_built(line: u32) -> Verdict {
+        Verdict::Refused(Fault { line, code: Code::NotBuilt })
+    }
+
+    #[test]
+    fn decides_by_the_marker_and_the_first_line_that_is_not_built(rt: HostRuntime) -> Result<(), Fail> {
+        let cases = [
+            (b"x = 1\n".as_slice(), Verdict::Plain),
+            (b"import __strict__".as_slice(), Verdict::Published(0)),
+            (b"import __static__\n".as_slice(), Verdict::Published(0)),
+            (b"import __strict__\nx = 1\ny = 2\nx = 3".as_slice(), Verdict::Published(2)),
+            (b"import __strict__ # why\n".as_slice(), not_built(1)),
+            (b"import __strict__\r\nx = 1\n".as_slice(), not_built(1)),
+            (b"\xef\xbb\xbfimport __strict__\n".as_slice(), not_built(1)),
+            (b"x = 1\nimport __strict__\n".as_slice(), not_built(1)),
+            (b"import __strict__\nX=1\ny = 01\n".as_slice(), not_built(2)),
+            (b"import __strict__\nx = 1\n\ny = 2\n".as_slice(), not_built(3)),
+        ];
+        for (text, want) in cases {
+            let verdict = decide(rt.alloc(), text)?;
+            assert_eq!(rt; verdict, want, "at {text:?}");
+        }
+        Ok(())
+    }
+
+    #[test]
+    fn builds_fifty_thousand_lines_and_no_more(rt: HostRuntime) -> Result<(), Fail> {
+        let mut text = Vec::from_slice(rt.alloc(), b"import __strict__\n")?;
+        for _ in 1..50_000 {
+            text.extend_from_slice(b"x = 1\n")?;
+        }
+        assert_eq!(rt; decide(rt.alloc(), &text)?, Verdict::Published(1));
+        text.extend_from_slice(b"x = 1")?;
+        assert_eq!(rt; decide(rt.alloc(), &text)?, not_built(50_001));
+        Ok(())
+    }
+
+    #[test]
+    fn refuses_a_text_above_the_greatest_size(rt: HostRuntime) -> Result<(), Fail> {
+        let mut text = vec![in rt.alloc(); b'#'; 1_048_576]?;
+        assert_eq!(rt; decide(rt.alloc(), &text)?, Verdict::Plain);
+        text.push(b'#')?;
+        assert_eq!(rt; decide(rt.alloc(), &text)?, TOO_LARGE);
+        Ok(())
+    }
 }
