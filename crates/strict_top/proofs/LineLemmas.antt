@@ -1,6 +1,6 @@
 -- The lines of a text, taken one after the other.
 use Rattle.std.specs.Prelude.{if◌then◌else◌}
-use Rattle.std.proofs.Common.{◌≡◌, ℕ, ◌+◌, ◌≤◌, ◌==◌, Bool, true, false, not, Bor, drop, List, [], ◌∷◌, length, Option, Some, None, cond, refl, sym, ap, ◌∙◌, arith, rules}
+use Rattle.std.proofs.Common.{◌≡◌, ℕ, ◌+◌, ◌≤◌, ◌==◌, Bool, true, false, not, Bor, drop, List, [], ◌∷◌, length, Option, Some, None, refl, arith}
 use Rattle.std.specs.List.{find, enumerate_from, onto_first}
 use Rattle.std.specs.Option.{option_map, MatchOption}
 use Rattle.py_lexer.specs.Lines.{lines}

@@ -1,15 +1,14 @@
-ghost use Rattle.std.specs.Prelude.{◌≡◌, ◌≤◌, ◌==◌, ◌||◌, None, IfOk, OnErr, length};
+ghost use Rattle.std.specs.Prelude.{◌≡◌, ◌≤◌, ◌==◌, ◌||◌, IfOk, OnErr, length};
 ghost use Rattle.std.specs.Str.{bytes_eq};
 ghost use Rattle.strict_top.specs.Verdicts.{greatest_size, is_bare_marker, is_built, first_unbuilt, globals_of, refused_at, verdict_of};
 
+use crate::assignment::bound_name;
 use indexmap::IndexSet;
 use py_lexer::lines::Lines;
 use py_lexer::marker::marker_line;
 use py_tree::code::Code;
 use py_tree::fault::Fault;
 use std::alloc::{AllocError, Global};
-
-use crate::assignment::bound_name;
 
 /// The most bytes that a module may have.
 const GREATEST_SIZE: usize = 1_048_576;
@@ -29,10 +28,10 @@ pub enum Verdict {
 }
 
 /// Decides a module by its bytes. A file that is too large is refused first; one with no marker is plain; of the others
-/// each line has to be built, or the first that isn't is refused. Memory is taken only where every line is built.
+/// each line has to be built, or the first that isn't is refused. Want of memory comes only where a module is published.
 pub fn decide(alloc: Global, text: &[u8]) -> Result<Verdict, AllocError>
     ensures verdict { IfOk result (λ verdict. verdict ≡ verdict_of text.now) }
-    ensures memory { OnErr result (first_unbuilt text.now ≡ None) }
+    ensures memory { OnErr result (verdict_of text.now ≡ Verdict.Published (length (globals_of text.now))) }
 {
     if text.len() > GREATEST_SIZE {
         return Ok(refused_at(1, Code::FileTooLarge));
@@ -105,25 +104,31 @@ mod tests {
     use super::*;
     use std::test::Fail;
 
-    const TOO_LARGE: Verdict = Verdict::Refused(Fault { line: 1, code: Code::FileTooLarge });
-
     fn not_built(line: u32) -> Verdict {
-        Verdict::Refused(Fault { line, code: Code::NotBuilt })
+        refused_at(line, Code::NotBuilt)
     }
 
     #[test]
-    fn decides_by_the_marker_and_the_first_line_that_is_not_built(rt: HostRuntime) -> Result<(), Fail> {
+    fn decides_by_the_marker_and_the_first_line_that_is_not_built(
+        rt: HostRuntime,
+    ) -> Result<(), Fail> {
         let cases = [
             (b"x = 1\n".as_slice(), Verdict::Plain),
             (b"import __strict__".as_slice(), Verdict::Published(0)),
             (b"import __static__\n".as_slice(), Verdict::Published(0)),
-            (b"import __strict__\nx = 1\ny = 2\nx = 3".as_slice(), Verdict::Published(2)),
+            (
+                b"import __strict__\nx = 1\ny = 2\nx = 3".as_slice(),
+                Verdict::Published(2),
+            ),
             (b"import __strict__ # why\n".as_slice(), not_built(1)),
             (b"import __strict__\r\nx = 1\n".as_slice(), not_built(1)),
             (b"\xef\xbb\xbfimport __strict__\n".as_slice(), not_built(1)),
             (b"x = 1\nimport __strict__\n".as_slice(), not_built(1)),
             (b"import __strict__\nX=1\ny = 01\n".as_slice(), not_built(2)),
-            (b"import __strict__\nx = 1\n\ny = 2\n".as_slice(), not_built(3)),
+            (
+                b"import __strict__\nx = 1\n\ny = 2\n".as_slice(),
+                not_built(3),
+            ),
         ];
         for (text, want) in cases {
             let verdict = decide(rt.alloc(), text)?;
@@ -149,7 +154,10 @@ mod tests {
         let mut text = vec![in rt.alloc(); b'#'; 1_048_576]?;
         assert_eq!(rt; decide(rt.alloc(), &text)?, Verdict::Plain);
         text.push(b'#')?;
-        assert_eq!(rt; decide(rt.alloc(), &text)?, TOO_LARGE);
+        assert_eq!(rt;
+            decide(rt.alloc(), &text)?,
+            refused_at(1, Code::FileTooLarge)
+        );
         Ok(())
     }
 }

@@ -1,5 +1,5 @@
 -- The name that a line binds, by where the line is cut.
-use Rattle.std.proofs.Common.{◌≡◌, ◌∙◌, sym, ap, refl, true, false}
+use Rattle.std.proofs.Common.{◌∙◌, sym, ap, refl, true, false}
 use Rattle.std.specs.Option.{option_copied}
 use Rattle.strict_top.specs.Assignments.{is_name, is_literal}
 use Rattle.strict_top.proofs.AssignmentLemmas.{bound_by-none, bound_by-cut, bound_with-unmarked, bound_with-marked}
@@ -26,6 +26,6 @@ returns-else-is_name c =
     let marked = c.in_ok-literal.ensures.cases in
     let ends = bound_with-marked is_name is_literal c.split_at.result.0.now c.split_at.result.1.now c.in_ok-literal.literal.now in
     elim c.else-is_name.branch [
-        else-is_name-via-then-is_name+else-is_literal w ↦ sym (cut ∙ ends true false marked.0 marked.1 w.if-is_name.ensures w.if-is_literal.ensures)
+      | else-is_name-via-then-is_name+else-is_literal w ↦ sym (cut ∙ ends true false marked.0 marked.1 w.if-is_name.ensures w.if-is_literal.ensures)
       | else-is_name-via-else-is_name w ↦ sym (cut ∙ ends false _ marked.0 marked.1 w.if-is_name.ensures refl)
     ]

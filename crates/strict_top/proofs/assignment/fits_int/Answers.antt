@@ -1,4 +1,4 @@
-use Rattle.std.proofs.Common.{◌≡◌, ◌∙◌}
+use Rattle.std.proofs.Common.{◌∙◌}
 use Rattle.strict_top.proofs.LiteralLemmas.{digits_utf8, is_ok-parse}
 use Rattle.strict_top.proofs.assignment.fits_int.Goals as goal
 

@@ -1,4 +1,4 @@
-use Rattle.std.proofs.Common.{◌≡◌, ◌∙◌}
+use Rattle.std.proofs.Common.{◌∙◌}
 use Rattle.strict_top.proofs.AssignmentLemmas.{list_any-pointed}
 use Rattle.strict_top.proofs.assignment.is_among.Goals as goal
 
