@@ -1,9 +1,10 @@
--- The lines of a text, cut at its first line feed.
-use Rattle.std.proofs.Common.{◌≡◌, ℕ, ◌+◌, ◌<◌, ◌≤◌, ◌==◌, ◌≢◌, Bool, true, false, cond, not, suc, Some, None, List, [], ◌∷◌, length, take, drop, refl, sym, ◌∙◌, ap, arith}
-use Rattle.std.specs.List.{position_or_len, before_first, after_first, onto_first, position}
+-- Lists that are cut at the first element that passes a test, and the lines of a text, cut at its first line feed.
+use Rattle.std.proofs.Common.{◌≡◌, ℕ, ◌+◌, ◌<◌, ◌≤◌, ◌==◌, ◌≢◌, Bool, true, false, cond, not, suc, Some, None, List, [], ◌∷◌, length, take, drop, length-drop, nat_eq, refl, sym, ◌∙◌, ap, arith}
+use Rattle.std.specs.List.{position_or_len, before_first, after_first, onto_first, position, starts_with}
 use Rattle.std.proofs.lemmas.Bool.{eqb-false, ltb-true, ltb-false}
 use Rattle.std.proofs.lemmas.List.{take_all, drop_all}
-use Rattle.py_lexer.specs.Lines.{lines}
+use Rattle.std.proofs.lemmas.List.Quantifiers.{position-Some}
+use Rattle.py_lexer.specs.Lines.{lines, byte_order_mark, without_byte_order_mark}
 
 abbrev pub is_feed : ℕ → Bool
 is_feed byte = byte == 10
@@ -48,3 +49,33 @@ lines_uncut text e some =
     let beyond_next : length text ≤ position_or_len is_feed text + 1 = omega arith in
     let present : length text ≢ 0 = eqb-false _ _ (sym some) in
     lines_first text (omega arith) ∙ cc (take_all _ text beyond, ap lines (drop_all _ text beyond_next))
+
+-- what stands before the first element that passes, by its place
+pub before_first_place : {X : Type 0} (p : X → Bool) (xs : List X) (n : ℕ) → Some n ≡ position p xs → take n xs ≡ before_first p xs
+before_first_place p xs n e = rw (some_place _ (position_or_len p xs) n e).1 refl
+
+pub before_no_place : {X : Type 0} (p : X → Bool) (xs : List X) → None ≡ position p xs → xs ≡ before_first p xs
+before_no_place p xs e = sym (take_all _ xs (ltb-false _ _ (no_place _ (position_or_len p xs) e)))
+
+length-onto_first : {X : Type 0} (x : X) (parts : List (List X)) → length (onto_first x parts) ≤ suc (length parts)
+length-onto_first x [] = omega arith
+length-onto_first x (part ∷ parts) = omega arith
+
+-- A text has no more lines than bytes.
+pub length-lines : (text : List ℕ) → length (lines text) ≤ length text
+length-lines [] = omega arith
+length-lines (byte ∷ bytes) =
+    let fewer : length (lines bytes) ≤ length bytes = length-lines bytes in
+    elim (byte == 10) as (λ b. length (cond b ([] ∷ lines bytes) (onto_first byte (lines bytes))) ≤ suc (length bytes))
+    [ true ↦ omega (arith, fewer) | false ↦ omega (arith, fewer, length-onto_first byte (lines bytes)) ]
+
+pub length-without_byte_order_mark : (text : List ℕ) → length (without_byte_order_mark text) ≤ length text
+length-without_byte_order_mark text =
+    elim (starts_with nat_eq text byte_order_mark) as (λ b. length (cond b (drop 3 text) text) ≤ length text)
+    [ true ↦ omega (arith, length-drop 3 text) | false ↦ omega arith ]
+
+-- The place of a line among the lines of a text is less than the text's length.
+pub place_within : (test : List ℕ → Bool) (text : List ℕ) (place : ℕ) → Some place ≡ position test (lines (without_byte_order_mark text)) → place < length text
+place_within test text place e =
+    let within = (position-Some test (lines (without_byte_order_mark text)) place [] (sym e)).0 in
+    omega (arith, within, length-lines (without_byte_order_mark text), length-without_byte_order_mark text)

@@ -6,10 +6,17 @@ use Rattle.unicode_ident.specs.Ident.{is_xid_start, is_xid_continue}
 use Rattle.unicode_normalization.specs.Forms.{is_in_form}
 use Rattle.unicode_normalization.specs.declared.Form.TheVariants.{Nfkc}
 
--- An identifier, as characters: one that may start it, then those that may continue it, and the whole in the form NFKC.
+abbrev pub may_start_identifier : ℕ → Bool
+may_start_identifier character = is_xid_start character || (character == 95)
+
+-- One character that may start an identifier, then those that may continue it.
+abbrev pub is_spelled_as_identifier : List ℕ → Bool
+is_spelled_as_identifier [] = false
+is_spelled_as_identifier (first ∷ rest) = may_start_identifier first && list_all is_xid_continue rest
+
+-- An identifier, as characters: it is spelled as one, and the whole is in the form NFKC.
 abbrev pub is_identifier : List ℕ → Bool
-is_identifier [] = false
-is_identifier (first ∷ rest) = (is_xid_start first || (first == 95)) && list_all is_xid_continue rest && is_in_form Nfkc (first ∷ rest)
+is_identifier name = is_spelled_as_identifier name && is_in_form Nfkc name
 
 abbrev pub keywords : List (List ℕ)
 keywords =

@@ -3,4 +3,5 @@
 #![tactic(auto)]
 
 pub mod lines;
+pub mod marker;
 pub mod names;

@@ -32,7 +32,7 @@ impl<'a> Iterator for Lines<'a> {
         if text.is_empty() {
             return None;
         }
-        let Some(end) = first_line_feed(text) else {
+        let Some(end) = first_place(text, b'\n') else {
             self.text = &[];
             return Some(text);
         };
@@ -41,9 +41,9 @@ impl<'a> Iterator for Lines<'a> {
     }
 }
 
-/// The place of the first line feed.
-fn first_line_feed(text: &[u8]) -> Option<usize>
-    ensures { result ≡ position (λ byte. byte == 10) text.now }
+/// The first place at which a byte stands.
+pub(crate) fn first_place(bytes: &[u8], byte: u8) -> Option<usize>
+    ensures { result ≡ position (λ other. other == byte) bytes.now }
 {
-    text.iter().position(|byte| *byte == b'\n')
+    bytes.iter().position(|other| *other == byte)
 }

@@ -1,5 +1,9 @@
-ghost use Rattle.std.specs.Prelude.{◌≡◌};
-ghost use Rattle.py_lexer.specs.Names.{is_keyword};
+ghost use Rattle.std.specs.Prelude.{◌≡◌, IfOk, chars};
+ghost use Rattle.py_lexer.specs.Names.{is_identifier, is_keyword, is_spelled_as_identifier, may_start_identifier};
+
+use std::alloc::{AllocError, Global};
+use unicode_ident::{is_xid_continue, is_xid_start};
+use unicode_normalization::is_nfkc;
 
 /// The keywords (Python reference: lexical analysis, keywords), in the order of their bytes.
 const KEYWORDS: [&[u8]; 35] = [
@@ -45,4 +49,32 @@ pub fn is_keyword(name: &[u8]) -> bool
     ensures { result ≡ is_keyword name.now }
 {
     KEYWORDS.iter().any(|keyword| name == *keyword)
+}
+
+/// Whether a name is an identifier (Python reference: lexical analysis, identifiers). A keyword is one by its spelling.
+pub fn is_identifier(alloc: Global, name: &str) -> Result<bool, AllocError>
+    ensures { IfOk result (λ yes. yes ≡ is_identifier (chars name.now)) }
+{
+    if !is_spelled_as_identifier(name) {
+        return Ok(false);
+    }
+    is_nfkc(alloc, name)
+}
+
+/// Whether the first character may start an identifier, and each other may continue one.
+fn is_spelled_as_identifier(name: &str) -> bool
+    ensures { result ≡ is_spelled_as_identifier (chars name.now) }
+{
+    let mut characters = name.chars();
+    let Some(first) = characters.next() else {
+        return false;
+    };
+    may_start_identifier(first) && characters.all(is_xid_continue)
+}
+
+/// Whether a character may start an identifier.
+fn may_start_identifier(character: char) -> bool
+    ensures { result ≡ may_start_identifier character }
+{
+    is_xid_start(character) || character == '_'
 }

@@ -5,3 +5,7 @@ pub mod Reading
 pub mod SortedNames
 pub mod FolderModules
 pub mod RunLemmas
+pub mod LiteralLemmas
+pub mod AssignmentLemmas
+pub mod OnceLemmas
+pub mod LineLemmas

@@ -1,7 +1,7 @@
 -- The lines `NAME = INT` that a module may have below its marker, and the names that they bind.
-use Rattle.std.specs.Prelude.{◌≡◌, ℕ, ◌<◌, ◌≤◌, ◌==◌, ◌||◌, ◌&&◌, nat_eq, nat_le, Bool, true, false, not, if◌then◌else◌, List, [], ◌∷◌, ◌++◌, length, drop, codes, Option, Some, None, IsTrue}
+use Rattle.std.specs.Prelude.{ℕ, ◌==◌, ◌||◌, ◌&&◌, nat_eq, nat_le, Bool, false, not, if◌then◌else◌, List, [], ◌∷◌, length, drop, codes, Option, Some, None}
 use Rattle.std.specs.Char.{is_ascii_alphabetic, is_ascii_alphanumeric, is_ascii_digit}
-use Rattle.std.specs.List.{before_first, starts_with, ends_with, list_any, list_all, filter, filter_map}
+use Rattle.std.specs.List.{before_first, starts_with, ends_with, list_any, list_all, filter}
 use Rattle.std.specs.Str.{bytes_eq}
 use Rattle.std.specs.Str.Parse.{digits_value}
 use Rattle.py_lexer.specs.Names.{is_keyword}

@@ -1,13 +1,12 @@
 -- What a module is decided to be, by its bytes.
-use Rattle.std.specs.Prelude.{◌≡◌, ℕ, ◌+◌, ◌<◌, ◌≤◌, ◌==◌, ◌||◌, ◌&&◌, nat_lt, nat_le, Bool, true, false, not, if◌then◌else◌, List, [], ◌∷◌, length, drop, codes, Option, Some, None, is_some, is_none}
-use Rattle.std.specs.List.{list_any, filter_map, position, enumerate_from, find}
+use Rattle.std.specs.Prelude.{ℕ, ◌==◌, ◌||◌, ◌&&◌, nat_lt, nat_le, Bool, not, if◌then◌else◌, List, length, drop, codes, Option, Some, None, is_some, is_none}
+use Rattle.std.specs.List.{filter_map, enumerate_from, find}
 use Rattle.std.specs.Option.{option_map}
 use Rattle.std.specs.Str.{bytes_eq}
 use Rattle.py_tree.specs.declared.code.Code.{Code}
 use Rattle.py_tree.specs.declared.code.Code.TheVariants.{FileTooLarge, NotBuilt}
-use Rattle.py_tree.specs.declared.fault.Fault.{Fault}
 use Rattle.py_lexer.specs.Lines.{lines}
-use Rattle.py_lexer.specs.Marker.{first_marker, marker_names}
+use Rattle.py_lexer.specs.Marker.{first_marker}
 use Rattle.strict_top.specs.declared.verdict.Verdict.{Verdict}
 use Rattle.strict_top.specs.declared.verdict.Verdict.TheVariants.{Published, Plain, Refused}
 use Rattle.strict_top.specs.Assignments.{bound_by, each_once}

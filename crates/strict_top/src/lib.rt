@@ -4,6 +4,7 @@
 mod modules;
 mod report;
 pub mod run;
+mod assignment;
 pub mod status;
 pub mod verdict;
 mod words;
