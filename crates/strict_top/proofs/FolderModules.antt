@@ -50,9 +50,10 @@ held_behind file files name bytes other held =
 held_in : (file : List ℕ × List ℕ) (files : List (List ℕ × List ℕ)) (name bytes : List ℕ) → module_in file.0 ≡ Some name → front_of file.1 ≡ bytes → IsHeld (file ∷ files) name bytes
 unfolding IsHeld
 held_in file files name bytes is front =
-    let file_is = module_file file.0 name is in
-    (ap module_in (sym file_is) ∙ is,
-     ap (λ b. option_map front_of (if b then Some file.1 else find name_cmp (name ++ ending) files)) (tied (name ++ ending) file.0 (sym file_is)) ∙ ap Some front)
+    let file_is = module_file file.0 name is in (
+      ap module_in (sym file_is) ∙ is,
+      ap (λ b. option_map front_of (if b then Some file.1 else find name_cmp (name ++ ending) files)) (tied (name ++ ending) file.0 (sym file_is)) ∙ ap Some front,
+    )
 
 source_step : (file : List ℕ × List ℕ) (files : List (List ℕ × List ℕ)) (name bytes : List ℕ) → (find name_cmp name (sources_in files) ≡ Some bytes → IsHeld files name bytes) →
     (here : Option (List ℕ)) → module_in file.0 ≡ here → find name_cmp name (cons_option (option_map (λ n. (n, front_of file.1)) here) (sources_in files)) ≡ Some bytes → IsHeld (file ∷ files) name bytes
@@ -67,8 +68,8 @@ source_step file files name bytes rest (Some n) is found = by (eq_by_cmp name_cm
     by false differ found =
         let held = rest found in
         held_behind file files name bytes (λ same.
-            let e : name ≡ n = same_Some _ _ (sym held.0 ∙ ap module_in same ∙ is) in
-            let t = tied name n e in absurd cc) held
+        let e : name ≡ n = same_Some _ _ (sym held.0 ∙ ap module_in same ∙ is) in
+        let t = tied name n e in absurd cc) held
 
 source_found : (files : List (List ℕ × List ℕ)) (name bytes : List ℕ) → find name_cmp name (sources_in files) ≡ Some bytes → IsHeld files name bytes
 source_found [] name bytes found = absurd cc
@@ -113,8 +114,8 @@ names_are files listed names moved members sorted =
     let held = sources_in (entries files) in
     same_names names (map (λ (s : Source). s.0) (modules files)) sorted (sorted_entries (modules files) (entries_sorted (from_entries {R = name_cmp} held)))
     (λ q. any_alike q names ∙ members q ∙ any_listed (bytes_eq q) listed (keys files) moved ∙ ap (list_any (bytes_eq q)) (sym (names_in (entries files)))
-        ∙ sym (any_alike q (map (λ (s : Source). s.0) held)) ∙ sym (is_some-find name_cmp q held) ∙ ap is_some (sym (get-from_entries nat_list_cmp_total held q))
-        ∙ contains_key-keys (from_entries {R = name_cmp} held) q)
+    ∙ sym (any_alike q (map (λ (s : Source). s.0) held)) ∙ sym (is_some-find name_cmp q held) ∙ ap is_some (sym (get-from_entries nat_list_cmp_total held q))
+    ∙ contains_key-keys (from_entries {R = name_cmp} held) q)
 
 -- a name below all isn't found
 none_below : (name : List ℕ) (es : List Source) → T (below_all name_cmp name es) → find name_cmp name es ≡ None
@@ -129,9 +130,11 @@ none_below name (e ∷ es) below = by (name_cmp name e.0) (left_holds _ _ below)
 -- what holds of each entry that is found holds of each
 found_each : (P : Source → Type 0) (es : List Source) → T (is_sorted name_cmp es) → ((q b : List ℕ) → find name_cmp q es ≡ Some b → P (q, b)) → AllByRecursion P es
 found_each P [] sorted each = tt
-found_each P (e ∷ es) sorted each = (each e.0 e.1 (ap (λ b. if b then Some e.1 else find name_cmp e.0 es) (tied e.0 e.0 refl)),
-    found_each P es (right_holds _ _ sorted) (λ q b found. each q b (ap (λ t. if t then Some e.1 else find name_cmp q es) (apart q e.0 (λ same.
-        let none : find name_cmp q es ≡ None = ap (λ n. find name_cmp n es) same ∙ none_below e.0 es (left_holds _ _ sorted) in absurd cc)) ∙ found)))
+found_each P (e ∷ es) sorted each = (
+  each e.0 e.1 (ap (λ b. if b then Some e.1 else find name_cmp e.0 es) (tied e.0 e.0 refl)),
+  found_each P es (right_holds _ _ sorted) (λ q b found. each q b (ap (λ t. if t then Some e.1 else find name_cmp q es) (apart q e.0 (λ same.
+      let none : find name_cmp q es ≡ None = ap (λ n. find name_cmp n es) same ∙ none_below e.0 es (left_holds _ _ sorted) in absurd cc)) ∙ found)),
+)
 
 -- each module of a directory is what a reading of its file gives
 pub modules_read : (files : Files) → AllByRecursion (IsSourceIn (Holds files)) (modules files)
@@ -140,8 +143,8 @@ modules_read files =
     let held = sources_in (entries files) in
     let all = from_entries {R = name_cmp} held in
     found_each (IsSourceIn (Holds files)) (entries all) (entries_sorted all) (λ q b found.
-        let h = source_found (entries files) q b (sym (get-from_entries nat_list_cmp_total held q) ∙ get-entries all q ∙ found) in
-        ap (option_map front_of) (get-entries files (q ++ ending)) ∙ h.1)
+    let h = source_found (entries files) q b (sym (get-from_entries nat_list_cmp_total held q) ∙ get-entries all q ∙ found) in
+    ap (option_map front_of) (get-entries files (q ++ ending)) ∙ h.1)
 
 -- sources of the same names that were read from the same files are the same
 same_sources : (files : Files) (xs ys : List Source) → map (λ (s : Source). s.0) xs ≡ map (λ (s : Source). s.0) ys → AllByRecursion (IsSourceIn (Holds files)) xs → AllByRecursion (IsSourceIn (Holds files)) ys → xs ≡ ys

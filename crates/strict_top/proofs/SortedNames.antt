@@ -46,7 +46,7 @@ pub same_names : (xs ys : List (List ℕ)) → T (is_sorted name_cmp (keyed xs))
 same_names xs ys xs_sorted ys_sorted same =
     sym (keys_keyed xs)
     ∙ ap (map (λ (e : List ℕ × Unit {0}). e.0)) (same_entries name_cmp nat_list_cmp_total (slice_cmp-IsAntisymmetric nat_cmp-IsAntisymmetric) (keyed xs) (keyed ys) xs_sorted ys_sorted
-        (λ q. find_keyed q xs ∙ ap (λ b. cond b (Some tt) None) (same q) ∙ sym (find_keyed q ys)))
+    (λ q. find_keyed q xs ∙ ap (λ b. cond b (Some tt) None) (same q) ∙ sym (find_keyed q ys)))
     ∙ keys_keyed ys
 
 -- the keys of a set are in order

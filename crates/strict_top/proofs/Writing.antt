@@ -69,8 +69,8 @@ pub part_written : {bytes : List ℕ} (rest : List ℕ) {first now : Option (Lis
 part_written {bytes} rest piece n next so_far more =
     let written = so_far.front ++ take n piece in
     let whole : bytes ≡ written ++ (drop n piece ++ rest) =
-        sym so_far.whole ∙ ap (λ p. so_far.front ++ (p ++ rest)) (sym (take-append-drop n piece))
-        ∙ ap (λ p. so_far.front ++ p) (append_assoc (take n piece) (drop n piece) rest) ∙ sym (append_assoc so_far.front (take n piece) (drop n piece ++ rest)) in
+    sym so_far.whole ∙ ap (λ p. so_far.front ++ (p ++ rest)) (sym (take-append-drop n piece))
+    ∙ ap (λ p. so_far.front ++ p) (append_assoc (take n piece) (drop n piece) rest) ∙ sym (append_assoc so_far.front (take n piece) (drop n piece ++ rest)) in
     (length written, subst (Appends _ next) (sym (ap (take (length written)) whole ∙ take-append_seam written _)) (appends_both _ _ _ _ _ so_far.appended more))
 
 -- nothing more is written

@@ -25,22 +25,22 @@ loop-file-preserved c =
     let file = string_bytes c.file-item.result in
     let stem = c.in-Some.name.now in
     let here : module_in file ≡ (if c.in_ok-is_module_name.field-0 then Some stem else None) =
-        ap module_in (sym c.as_str.ensures.value ∙ c.in-Some.ensures) ∙ module_in-ending stem ∙ ap (λ b. if b then Some stem else None) (sym c.in_ok-is_module_name.ensures) in
+    ap module_in (sym c.as_str.ensures.value ∙ c.in-Some.ensures) ∙ module_in-ending stem ∙ ap (λ b. if b then Some stem else None) (sym c.in_ok-is_module_name.ensures) in
     let more = λ (name : List ℕ). sym (names_more c.args.files.now c.loop-file.file-index c.file-item.result name c.loop-file-test.true c.file-item.is) in
     elim c.if-branch.branch [
       | then-branch+in_ok-from_str+in_ok-insert w ↦
-        let found : module_in file ≡ Some (string_bytes w.in_ok-from_str.field-0) = here ∙ ap (λ b. if b then Some stem else None) w.if-branch.true ∙ ap Some (sym w.in_ok-from_str.ensures.ok) in
-        record {
-          members = λ name. ap (λ s. contains_text s name) w.names-is
-              ∙ btree_set_updates_text (string_bytes w.in_ok-from_str.field-0) c.loop-file.names w.insert.new.self _ w.in_ok-insert.ensures.updates name
-              ∙ ap (λ old. if bytes_eq (string_bytes w.in_ok-from_str.field-0) name then true else old) (c.loop-file.invariant.members name)
-              ∙ sym (names_added _ file name _ found) ∙ more name;
-          ordered = subst (IsOrdered string_cmp) (sym w.names-is) w.in_ok-insert.ensures.ordered;
-        }
+          let found : module_in file ≡ Some (string_bytes w.in_ok-from_str.field-0) = here ∙ ap (λ b. if b then Some stem else None) w.if-branch.true ∙ ap Some (sym w.in_ok-from_str.ensures.ok) in
+          record {
+            members = λ name. ap (λ s. contains_text s name) w.names-is
+                ∙ btree_set_updates_text (string_bytes w.in_ok-from_str.field-0) c.loop-file.names w.insert.new.self _ w.in_ok-insert.ensures.updates name
+                ∙ ap (λ old. if bytes_eq (string_bytes w.in_ok-from_str.field-0) name then true else old) (c.loop-file.invariant.members name)
+                ∙ sym (names_added _ file name _ found) ∙ more name;
+            ordered = subst (IsOrdered string_cmp) (sym w.names-is) w.in_ok-insert.ensures.ordered;
+          }
       | else-branch w ↦
-        let none : module_in file ≡ None = here ∙ ap (λ b. if b then Some stem else None) w.if-branch.false in
-        record {
-          members = λ name. ap (λ s. contains_text s name) w.names-is ∙ c.loop-file.invariant.members name ∙ sym (names_same _ file name none) ∙ more name;
-          ordered = subst (IsOrdered string_cmp) (sym w.names-is) c.loop-file.invariant.ordered;
-        }
+          let none : module_in file ≡ None = here ∙ ap (λ b. if b then Some stem else None) w.if-branch.false in
+          record {
+            members = λ name. ap (λ s. contains_text s name) w.names-is ∙ c.loop-file.invariant.members name ∙ sym (names_same _ file name none) ∙ more name;
+            ordered = subst (IsOrdered string_cmp) (sym w.names-is) c.loop-file.invariant.ordered;
+          }
     ]

@@ -41,7 +41,7 @@ report_decided-requires g c =
     let read = c.in-Ok.ensures.decided in
     let decided = map view_of c.deref.result.now in
     λ room is. c.requires room is (report_of decided)
-        (report_on_modules words (g.F.Folder.told c.args.folder.now) c.in-Some.dir.now decided c.in-Some.ensures (read.0, read.1, ap (map view_of) c.deref.ensures.value ∙ read.2))
+    (report_on_modules words (g.F.Folder.told c.args.folder.now) c.in-Some.dir.now decided c.in-Some.ensures (read.0, read.1, ap (map view_of) c.deref.ensures.value ∙ read.2))
 
 pub returns-in-Ok-clause-exact : goal.returns-in-Ok-clause-exact
 returns-in-Ok-clause-exact g c =
