@@ -5,3 +5,4 @@ pub mod Modules
 pub mod Reports
 pub mod Runs
 pub mod Decided
+pub mod Statuses
