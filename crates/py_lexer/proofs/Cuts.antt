@@ -31,7 +31,7 @@ some_place : (b : Bool) (place n : ℕ) → Some n ≡ cond b (Some place) None 
 some_place true place n e = (refl, cc)
 some_place false place n e = absurd cc
 
-no_place : (b : Bool) (place : ℕ) → None ≡ cond b (Some place) None → b ≡ false
+pub no_place : (b : Bool) (place : ℕ) → None ≡ cond b (Some place) None → b ≡ false
 no_place true place e = absurd cc
 no_place false place e = refl
 

@@ -1,7 +1,7 @@
-ghost use Rattle.std.specs.Prelude.{◌≡◌, ◌≤◌, ◌==◌, length};
+ghost use Rattle.std.specs.Prelude.{◌≡◌, ◌↔◌, ◌≤◌, ◌==◌, ℕ, IsTrue, List, Option, length};
 ghost use Rattle.std.specs.List.{before_first, list_all, list_any, position};
 ghost use Rattle.py_lexer.specs.Lines.{lines, without_byte_order_mark};
-ghost use Rattle.py_lexer.specs.Marker.{first_marker, IsFirstMarker, is_marker_line, part_of, after_spaces, is_name_and_spaces, is_space, marker_names};
+ghost use Rattle.py_lexer.specs.Marker.{first_marker, IsFirstMarker, is_marker_line, IsMarkerLine, part_of, after_spaces, is_name_and_spaces, is_space, marker_names};
 
 use crate::lines::{Lines, first_place};
 
@@ -15,10 +15,21 @@ const MARKER_NAMES: [&[u8]; 2] = [b"__strict__", b"__static__"];
 pub fn marker_line(text: &[u8]) -> Option<u32>
     requires { length text.now ≤ 1048576 }
     ensures exact { result ≡ first_marker text.now }
+    ensures first { IsFirstMarker text.now result }
 {
     let place = first_marker_place(without_byte_order_mark(text))?;
     Some(place as u32 + 1)
 }
+
+/// A text has one first marker.
+pub fn one_answer()
+    ensures { (text : List ℕ) (one other : Option ℕ) → IsFirstMarker text one → IsFirstMarker text other → one ≡ other }
+{}
+
+/// A line is a marker line by the test exactly where it is spelled as one.
+pub fn one_spelling()
+    ensures { (line : List ℕ) → IsTrue (is_marker_line line) ↔ IsMarkerLine line }
+{}
 
 /// The text without U+FEFF at its start.
 fn without_byte_order_mark(text: &[u8]) -> &[u8]

@@ -1,9 +1,9 @@
 -- The iterator gives the lines, which are no more than the bytes.
-use Rattle.std.proofs.Common.{rules, arith, inl, ◌≤◌, ◌≡◌, length, ap}
+use Rattle.std.proofs.Common.{rules, arith, inl, length, ap}
 use Rattle.std.proofs.lemmas.Iterator.Consumers.{YieldsList-from_first}
 use Rattle.std.proofs.lemmas.Iterator.Search.{position_from_yields_List}
 use borrow.Author.Tests.{tests}
-use Rattle.py_lexer.specs.Lines.{lines, lines_left}
+use Rattle.py_lexer.specs.Lines.{lines_left}
 use Rattle.py_lexer.specs.Marker.{is_marker_line}
 use Rattle.py_lexer.proofs.Cuts.{length-lines}
 use Rattle.py_lexer.proofs.marker.first_marker_place.Goals as goal
