@@ -1,4 +1,4 @@
-ghost use Rattle.std.specs.Prelude.{◌≡◌, ◌==◌};
+ghost use Rattle.std.specs.Prelude.{◌≡◌, ◌≤◌, ◌==◌, length};
 ghost use Rattle.std.specs.List.{position};
 ghost use Rattle.py_lexer.specs.Lines.{lines, lines_left};
 
@@ -11,7 +11,8 @@ pub struct Lines<'a> {
 impl<'a> Lines<'a> {
     /// The lines of a text. Behind the last line feed stands a line only where something stands there.
     pub fn new(text: &'a [u8]) -> Lines<'a>
-        ensures { lines_left result ≡ lines text.now }
+        ensures lines { lines_left result ≡ lines text.now }
+        ensures few { length (lines_left result) ≤ length text.now }
     {
         Lines { text }
     }
