@@ -10,6 +10,7 @@ use Rattle.py_lexer.specs.Marker.{IsMarkerLine, IsFirstMarker, is_marker_line, f
 use Rattle.py_lexer.proofs.Cuts.{no_place}
 use Rattle.py_lexer.proofs.Spelling.{marker_line_spelled}
 
+-- the lines that count
 abbrev lines_of : List ℕ → List (List ℕ)
 lines_of text = lines (without_byte_order_mark text)
 
@@ -25,6 +26,7 @@ none_passes text e n line is_line =
     let within = slice_get_within (lines_of text) (n - 1) line at in
     refused line (ap is_marker_line (sym (get_or_from_slice_get (lines_of text) (n - 1) line [] at)) ∙ fails_before_first is_marker_line (lines_of text) (n - 1) [] (omega (arith, beyond, within)))
 
+-- where a place passes first, its line is the first marker
 some_passes : (text : List ℕ) (place : ℕ) → Some place ≡ position is_marker_line (lines_of text) → IsFirstMarker text (Some (place + 1))
 some_passes text place e =
     let found = position-Some is_marker_line (lines_of text) place [] (sym e) in
@@ -34,13 +36,16 @@ some_passes text place e =
       λ k other less is_line. refused other (ap is_marker_line (sym (get_or_from_slice_get (lines_of text) (k - 1) other [] is_line.1)) ∙ found.2 (k - 1) (omega (arith, is_line.0))),
     )
 
+-- the number that follows the place is the first marker's
 first_by_test : (text : List ℕ) (r : Option ℕ) → r ≡ position is_marker_line (lines_of text) → IsFirstMarker text (option_map (λ place. place + 1) r)
 first_by_test text None e = none_passes text e
 first_by_test text (Some place) e = some_passes text place e
 
+-- The answer by the test is the first marker.
 pub first_marker_is : (text : List ℕ) (r : Option ℕ) → r ≡ first_marker text → IsFirstMarker text r
 first_marker_is text r e = subst (IsFirstMarker text) (sym e) (first_by_test text _ refl)
 
+-- Two first markers of one text are one.
 pub same_first_marker : (text : List ℕ) (one other : Option ℕ) → IsFirstMarker text one → IsFirstMarker text other → one ≡ other
 same_first_marker text None None a b = refl
 same_first_marker text None (Some n) a b = absurd (a n b.0.0 b.0.1 b.0.2)
