@@ -3,4 +3,6 @@
 #![tactic(auto)]
 
 pub mod folder;
+pub mod memory_folder;
+pub mod rows;
 pub mod sink;
