@@ -4,6 +4,7 @@ use Rattle.std.specs.Option.{option_map}
 use Rattle.std.specs.List.{find, list_any, IsDistinct}
 use Rattle.std.specs.Str.{IsUtf8, bytes_eq}
 use Rattle.std.specs.FinMap.{from_entries}
+use Rattle.outside.specs.Calls.{next_count}
 use Rattle.outside.specs.declared.folder.FolderFault.{FolderFault}
 use Rattle.outside.specs.declared.folder.FolderFault.TheVariants.{Failed, Memory}
 use Rattle.outside.specs.declared.rows.FileRow.{FileRow}
@@ -49,14 +50,6 @@ told_in folder name = told_by (rows_in folder.dirs name)
 
 abbrev pub is_missing : FolderState → List ℕ → Bool
 is_missing folder name = is_none (rows_in folder.dirs name)
-
--- A count that has risen. At the last value of 64 bits it stands still.
-abbrev pub next_count : ℕ → ℕ
-next_count count = min (count + 1) (2 ^ 64 - 1)
-
--- Whether the call after so many is to fail.
-abbrev pub is_due : List ℕ → ℕ → Bool
-is_due failing calls = list_any (λ number. number == next_count calls) failing
 
 -- The folder after a call that didn't fail, and after one that did.
 abbrev pub called : FolderState → FolderState

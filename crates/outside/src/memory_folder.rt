@@ -2,12 +2,13 @@ ghost use Rattle.std.specs.Prelude.{◌≡◌, ◌≤◌, ◌||◌, List, [], le
 ghost use Rattle.std.specs.Option.{option_copied};
 ghost use Rattle.std.specs.List.{find};
 ghost use Rattle.std.specs.Str.{IsUtf8, bytes_eq};
+ghost use Rattle.outside.specs.Calls.{is_due};
 ghost use Rattle.outside.specs.Faults.{CountsFolder};
 ghost use Rattle.outside.specs.Files.{Holds, IsListing, IsThere, IsReading, front_of};
-ghost use Rattle.outside.specs.Memory.{AreFiles, AreDirs, rows_in, row_in, files_in, told_in, is_missing, is_due, AnswersCall};
+ghost use Rattle.outside.specs.Memory.{AreFiles, AreDirs, rows_in, row_in, files_in, told_in, is_missing, AnswersCall};
 
 use crate::folder::{Folder, FolderFault, READ_LIMIT};
-use crate::rows::{Bytes, CallList, DirList, DirRow, FileRow};
+use crate::rows::{CallList, DirList, DirRow, FileRow};
 use std::alloc::{AllocError, Global};
 use std::marker::Model;
 
@@ -149,3 +150,6 @@ fn file_front(alloc: Global, files: &[FileRow], name: &str) -> Result<Vec<u8>, A
     let row = find_file(files, name).unwrap();
     Vec::from_slice(alloc, front(row.bytes.as_slice()))
 }
+
+#[cfg(test)]
+mod tests;
