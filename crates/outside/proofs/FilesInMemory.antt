@@ -1,5 +1,5 @@
 -- The files of a folder in memory: a directory's row that was found, a listing's names and a reading's bytes.
-use Rattle.std.proofs.Common.{◌≡◌, ℕ, nat_lt, Bool, true, false, cond, List, [], ◌∷◌, map, All, Option, Some, None, IsTrue, Bor, refl, sym, ap, subst, ◌∙◌}
+use Rattle.std.proofs.Common.{◌≡◌, ℕ, nat_lt, Bool, true, false, cond, List, [], ◌∷◌, map, All, Option, Some, None, Bor, refl, sym, ap, subst, ◌∙◌}
 use Rattle.std.specs.Prelude.{is_some, IsSome}
 use Rattle.std.specs.Option.{option_map, option_copied}
 use Rattle.std.specs.Cmp.Lexicographic.{slice_cmp, nat_list_cmp_total, nat_list_eq_equiv, texts_ties}
@@ -13,7 +13,6 @@ use Rattle.std.proofs.lemmas.Str.{IsUtf8-from_ascii}
 use Rattle.std.proofs.lemmas.Str.Ascii.{IsAscii-nil, IsAscii-cons}
 use Rattle.std.proofs.lemmas.List.Elements.{All-head, All-tail}
 use Rattle.outside.specs.declared.rows.FileRow.{FileRow}
-use Rattle.outside.specs.declared.rows.DirRow.{DirRow}
 use Rattle.outside.specs.Files.{Holds, IsThere, IsReading, front_of}
 use Rattle.outside.specs.Memory.{AreFiles, row_in, files_in}
 use Rattle.outside.proofs.MapKeys.{keys-from_entries}

@@ -3,15 +3,13 @@ ghost use Rattle.std.specs.IoError.{error_kind};
 ghost use Rattle.outside.specs.Faults.{CountsFolder};
 ghost use Rattle.outside.specs.Files.{Untold};
 
+use crate::folder::{Folder, FolderFault, READ_LIMIT};
 use std::alloc::Global;
-use std::fs;
-use std::io;
 use std::io::{ErrorKind, Read};
 use std::marker::Model;
 use std::path::Path;
 use std::rt::Files;
-
-use crate::folder::{Folder, FolderFault, READ_LIMIT};
+use std::{fs, io};
 
 /// The most names that a listing has. A directory of more files can't be listed.
 pub const NAME_LIMIT: usize = 1_000_000;
@@ -112,9 +110,8 @@ fn file_front<R: Files>(rt: &R, alloc: Global, dir: &str, name: &str) -> io::Res
 #[cfg(test)]
 mod tests {
     use super::*;
-    use std::env;
-    use std::process;
     use std::test::Fail;
+    use std::{env, process};
 
     #[test]
     fn lists_and_reads_a_directory_of_the_system(rt: HostRuntime) -> Result<(), Fail> {

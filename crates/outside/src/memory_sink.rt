@@ -4,11 +4,10 @@ ghost use Rattle.outside.specs.Calls.{is_due};
 ghost use Rattle.outside.specs.Faults.{CountsSink};
 ghost use Rattle.outside.specs.Written.{AnswersWrite};
 
-use std::alloc::Global;
-use std::marker::Model;
-
 use crate::rows::CallList;
 use crate::sink::{Sink, SinkFault};
+use std::alloc::Global;
+use std::marker::Model;
 
 /// A sink in memory, which takes a limited number of bytes at once and fails at the calls that it was told.
 #[derive(Debug, Drop)]

@@ -2,11 +2,10 @@ ghost use Rattle.std.specs.Prelude.{◌≡◌, ◌<◌, ◌≤◌, ◌↔◌, �
 ghost use Rattle.std.specs.IoError.{error_kind};
 ghost use Rattle.outside.specs.Faults.{CountsSink};
 
+use crate::sink::{Sink, SinkFault};
 use std::io;
 use std::io::ErrorKind;
 use std::marker::Model;
-
-use crate::sink::{Sink, SinkFault};
 
 /// The standard output, with no buffer: the bytes that a call takes have been handed to the system. A closed pipe is a
 /// failure, and ends no process.

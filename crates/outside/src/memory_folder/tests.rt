@@ -2,12 +2,11 @@ ghost use Rattle.std.specs.Prelude.{◌≡◌, ◌∷◌, [], codes, IfOk};
 ghost use Rattle.outside.specs.Files.{IsThere};
 ghost use Rattle.outside.specs.Memory.{told_in};
 
-use std::alloc::{AllocError, Global};
-use std::test::Fail;
-
 use super::MemoryFolder;
 use crate::folder::{Folder, FolderFault};
 use crate::rows::{Bytes, CallList, DirList, DirRow, FileList, FileRow};
+use std::alloc::{AllocError, Global};
+use std::test::Fail;
 
 fn file(alloc: Global, name: &str, bytes: &[u8]) -> Result<FileRow, AllocError>
     ensures { IfOk result (λ row. row ≡ record { name = name.now; bytes = bytes.now }) }
@@ -21,8 +20,8 @@ fn file(alloc: Global, name: &str, bytes: &[u8]) -> Result<FileRow, AllocError>
 /// The directory `src` with the files `a.py` and `b.py`.
 fn sample(alloc: Global) -> Result<DirList, AllocError>
     ensures { IfOk result (λ dirs. dirs ≡ record {
-        name = codes "src";
-        files = record { name = codes "a.py"; bytes = codes "A" } ∷ record { name = codes "b.py"; bytes = codes "B" } ∷ []
+      name = codes "src";
+      files = record { name = codes "a.py"; bytes = codes "A" } ∷ record { name = codes "b.py"; bytes = codes "B" } ∷ [];
     } ∷ []) }
 {
     let mut files = FileList::new(alloc);
@@ -56,7 +55,10 @@ fn gives_its_files_and_fails_when_told(rt: HostRuntime) -> Result<(), Fail> {
     let bytes = folder.read(alloc, "src", "b.py")?;
     assert_eq!(rt; bytes.as_slice(), b"B".as_slice());
 
-    assert_eq!(rt; folder.read(alloc, "src", "b.py").err(), Some(FolderFault::Failed));
+    assert_eq!(rt;
+        folder.read(alloc, "src", "b.py").err(),
+        Some(FolderFault::Failed)
+    );
     assert_eq!(rt; folder.list(alloc, "lib").err(), Some(FolderFault::Failed));
     assert_eq!(rt; folder.faults, 2);
     Ok(())

@@ -16,7 +16,7 @@ are_files : AreFiles files
 unfolding IsDistinct
 are_files = record {
   texts = All-from_recursion (λ (row : FileRow). IsUtf8 row.name) files (IsUtf8-plain (codes "a.py") refl, (IsUtf8-plain (codes "b.py") refl, tt));
-  distinct = ((refl, tt), (tt, tt))
+  distinct = ((refl, tt), (tt, tt));
 }
 
 abbrev dirs : List DirRow
@@ -27,7 +27,7 @@ unfolding IsDistinct
 are_dirs = record {
   texts = All-from_recursion (λ (row : DirRow). IsUtf8 row.name) dirs (IsUtf8-plain (codes "src") refl, tt);
   distinct = (tt, tt);
-  files = All-from_recursion (λ (row : DirRow). AreFiles row.files) dirs (are_files, tt)
+  files = All-from_recursion (λ (row : DirRow). AreFiles row.files) dirs (are_files, tt);
 }
 
 pub new-requires : goal.new-requires
