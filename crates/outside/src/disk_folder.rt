@@ -69,7 +69,9 @@ impl<R: Files> Folder for DiskFolder<R> {
     }
 }
 
-fn file_names<R: Files>(rt: &R, alloc: Global, dir: &str) -> io::Result<Vec<String>> {
+fn file_names<R: Files>(rt: &R, alloc: Global, dir: &str) -> io::Result<Vec<String>>
+    ensures { IfOk result (λ names. vec_len names ≤ NAME_LIMIT) }
+{
     let rt = (rt, alloc);
     let mut names = Vec::new(alloc);
     for entry in fs::read_dir(&rt, dir)? {
