@@ -1,5 +1,5 @@
 -- What a folder is: for each directory a finite map from file names to bytes.
-use Rattle.std.specs.Prelude.{◌≡◌, ℕ, IsTrue, List, Option, Some, take, option_map}
+use Rattle.std.specs.Prelude.{◌≡◌, ℕ, IsTrue, List, Some, take, option_map}
 use Rattle.std.specs.Option.{option_map}
 use Rattle.std.specs.Ordering.{nat_cmp}
 use Rattle.std.specs.Cmp.Lexicographic.{slice_cmp}

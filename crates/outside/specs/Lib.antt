@@ -1,3 +1,6 @@
+pub mod Bytes
+pub mod Calls
 pub mod Faults
 pub mod Files
-pub mod Bytes
+pub mod Memory
+pub mod Written

@@ -2,7 +2,7 @@ ghost use Rattle.std.specs.Prelude.{◌≡◌, ◌≤◌, ℕ, List, IfOk, map, 
 ghost use Rattle.outside.specs.Faults.{CountsFolder};
 ghost use Rattle.outside.specs.Files.{Told, IsListing, IsThere, IsReading};
 
-use std::alloc::Global;
+use std::alloc::{AllocError, Global};
 use thiserror::Error;
 
 /// The most bytes that [`Folder::read`] gives of a file: one more than a module may have.
@@ -17,6 +17,17 @@ pub enum FolderFault {
     /// There was no memory for the answer.
     #[error("out of memory")]
     Memory,
+}
+
+impl From<AllocError> for FolderFault {
+    ghost use Rattle.std.specs.Prelude.{◌≡◌};
+    ghost use Rattle.outside.specs.declared.folder.FolderFault.TheVariants.{Memory};
+
+    ghost from_gives = { λ _ fault. fault ≡ Memory };
+
+    fn from(_: AllocError) -> FolderFault {
+        FolderFault::Memory
+    }
 }
 
 /// Directories of files. What is in them doesn't change under the calls.

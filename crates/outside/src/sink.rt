@@ -3,6 +3,7 @@ ghost use Rattle.std.specs.Option.{ForSome};
 ghost use Rattle.outside.specs.Faults.{CountsSink};
 ghost use Rattle.outside.specs.Bytes.{Appends, Takes};
 
+use std::alloc::AllocError;
 use thiserror::Error;
 
 /// Why a sink took nothing.
@@ -14,6 +15,17 @@ pub enum SinkFault {
     /// There was no memory for the bytes.
     #[error("out of memory")]
     Memory,
+}
+
+impl From<AllocError> for SinkFault {
+    ghost use Rattle.std.specs.Prelude.{◌≡◌};
+    ghost use Rattle.outside.specs.declared.sink.SinkFault.TheVariants.{Memory};
+
+    ghost from_gives = { λ _ fault. fault ≡ Memory };
+
+    fn from(_: AllocError) -> SinkFault {
+        SinkFault::Memory
+    }
 }
 
 /// What bytes are written to, one after the other.

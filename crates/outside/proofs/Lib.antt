@@ -1,0 +1,2 @@
+pub mod FilesInMemory
+pub mod MapKeys
