@@ -1,0 +1,2 @@
+import __strict__
+X = 1
