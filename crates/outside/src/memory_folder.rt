@@ -2,8 +2,8 @@ ghost use Rattle.std.specs.Prelude.{◌≡◌, ◌≤◌, ◌||◌, List, [], le
 ghost use Rattle.std.specs.Option.{option_copied};
 ghost use Rattle.std.specs.List.{find};
 ghost use Rattle.std.specs.Str.{IsUtf8, bytes_eq};
-ghost use Rattle.outside.specs.Calls.{is_due};
-ghost use Rattle.outside.specs.Faults.{CountsFolder};
+ghost use Rattle.outside.specs.Calls.{next_count, is_due};
+ghost use Rattle.outside.specs.Faults.{HasRisen, CountsFolder};
 ghost use Rattle.outside.specs.Files.{Holds, IsListing, IsThere, IsReading, front_of};
 ghost use Rattle.outside.specs.Memory.{AreFiles, AreDirs, rows_in, row_in, files_in, told_in, is_missing, AnswersCall};
 
@@ -54,10 +54,19 @@ impl MemoryFolder {
     {
         self.calls = self.calls.saturating_add(1);
         if self.failing.as_slice().contains(&self.calls) {
-            self.faults = self.faults.saturating_add(1);
-            return Err(FolderFault::Failed);
+            Err(self.count_fault())
+        } else {
+            Ok(())
         }
-        Ok(())
+    }
+
+    fn count_fault(&mut self) -> FolderFault
+        ensures fault { result ≡ FolderFault.Failed }
+        ensures state { self.new ≡ record self.old { faults = next_count self.old.faults } }
+        ensures risen { HasRisen self.old.faults self.new.faults }
+    {
+        self.faults = self.faults.saturating_add(1);
+        FolderFault::Failed
     }
 
     fn files_of(&self, dir: &str) -> Option<&[FileRow]>
@@ -82,8 +91,7 @@ impl Folder for MemoryFolder {
     {
         self.count_call()?;
         let Some(files) = self.files_of(dir) else {
-            self.faults = self.faults.saturating_add(1);
-            return Err(FolderFault::Failed);
+            return Err(self.count_fault());
         };
         Ok(file_names(alloc, files)?)
     }
