@@ -86,11 +86,12 @@ fn file_names<R: Files>(rt: &R, alloc: Global, dir: &str) -> io::Result<Vec<Stri
     Ok(names)
 }
 
-/// Whether something other than a directory stands there, or where a symlink leads. What has vanished, and a symlink
+/// Whether a regular file stands there, or where a symlink leads: no directory, and no pipe, which a reading might wait
+/// for without end. What has vanished, and a symlink
 /// that leads nowhere, name no file. Any other error leaves it open what stands there, so the listing fails.
 fn is_file(files: &impl Files, path: Path<'_>) -> io::Result<bool> {
     match fs::metadata(files, path) {
-        Ok(metadata) => Ok(!metadata.is_dir()),
+        Ok(metadata) => Ok(metadata.is_file()),
         Err(error) => match error.kind() {
             ErrorKind::NotFound | ErrorKind::NotADirectory | ErrorKind::FilesystemLoop => Ok(false),
             _ => Err(error),
