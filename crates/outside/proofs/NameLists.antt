@@ -6,6 +6,7 @@ use Rattle.std.proofs.lemmas.List.Elements.{All-nil, All-cons, All-head, All-tai
 use Rattle.std.proofs.lemmas.Map.Keys.{IsDistinct-head, IsDistinct-tail, IsDistinct-cons}
 
 module _ {X : Type 0} (name : X → List ℕ) where
+  -- each name is a text, and stands once
   abbrev pub AreNamed : List X → Type 0
   AreNamed rows = All (λ row. IsUtf8 (name row)) rows × IsDistinct bytes_eq (map name rows)
 
@@ -23,6 +24,7 @@ module _ {X : Type 0} (name : X → List ℕ) where
   absent-from_apart bytes [] apart = refl
   absent-from_apart bytes (row ∷ rows) apart = rw apart.0 (absent-from_apart bytes rows apart.1)
 
+  -- the empty list is one of them
   pub AreNamed-nil : AreNamed []
   unfolding IsDistinct
   AreNamed-nil = (All-nil (λ row. IsUtf8 (name row)), tt)
