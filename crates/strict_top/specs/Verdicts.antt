@@ -44,7 +44,7 @@ verdict_of_lines None globals = Published globals
 verdict_of_lines (Some line) globals = refused_at line NotBuilt
 
 -- The verdict: the first of these that applies.
-abbrev pub verdict_of : List ℕ → Verdict
+unfoldable pub verdict_of : List ℕ → Verdict
 verdict_of text =
     if nat_lt greatest_size (length text) then refused_at 1 FileTooLarge
     else if is_none (first_marker text) then Plain

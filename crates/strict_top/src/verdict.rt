@@ -29,6 +29,7 @@ pub enum Verdict {
 
 /// Decides a module by its bytes. A file that is too large is refused first; one with no marker is plain; of the others
 /// each line has to be built, or the first that isn't is refused. Want of memory comes only where a module is published.
+#[tactic(auto, unfolding(crate::specs::Verdicts::verdict_of))]
 pub fn decide(alloc: Global, text: &[u8]) -> Result<Verdict, AllocError>
     ensures verdict { IfOk result (λ verdict. verdict ≡ verdict_of text.now) }
     ensures memory { OnErr result (verdict_of text.now ≡ Verdict.Published (length (globals_of text.now))) }
