@@ -1,4 +1,4 @@
--- Names in a table.
+-- Names in a table, and the name that a line binds.
 use Rattle.std.specs.Prelude.{if◌then◌else◌, codes, nat_eq, position}
 use Rattle.std.proofs.Common.{◌≡◌, ℕ, ◌==◌, ◌<◌, ◌≤◌, Bool, true, false, ◌&&◌, List, [], ◌∷◌, map, length, take, drop, Option, Some, None, refl, sym, ap, ◌∙◌, arith, Bor, eqb}
 use Rattle.std.proofs.lemmas.Bool.Decides.{nat_tests}
