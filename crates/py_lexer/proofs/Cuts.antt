@@ -6,6 +6,7 @@ use Rattle.std.proofs.lemmas.List.{take_all, drop_all}
 use Rattle.std.proofs.lemmas.List.Quantifiers.{position-Some}
 use Rattle.py_lexer.specs.Lines.{lines, byte_order_mark, without_byte_order_mark}
 
+-- a line feed
 abbrev pub is_feed : ℕ → Bool
 is_feed byte = byte == 10
 
@@ -31,7 +32,8 @@ some_place : (b : Bool) (place n : ℕ) → Some n ≡ cond b (Some place) None 
 some_place true place n e = (refl, cc)
 some_place false place n e = absurd cc
 
-no_place : (b : Bool) (place : ℕ) → None ≡ cond b (Some place) None → b ≡ false
+-- without a place the test fails
+pub no_place : (b : Bool) (place : ℕ) → None ≡ cond b (Some place) None → b ≡ false
 no_place true place e = absurd cc
 no_place false place e = refl
 
@@ -54,9 +56,11 @@ lines_uncut text e some =
 pub before_first_place : {X : Type 0} (p : X → Bool) (xs : List X) (n : ℕ) → Some n ≡ position p xs → take n xs ≡ before_first p xs
 before_first_place p xs n e = rw (some_place _ (position_or_len p xs) n e).1 refl
 
+-- without such an element all of the list stands before it
 pub before_no_place : {X : Type 0} (p : X → Bool) (xs : List X) → None ≡ position p xs → xs ≡ before_first p xs
 before_no_place p xs e = sym (take_all _ xs (ltb-false _ _ (no_place _ (position_or_len p xs) e)))
 
+-- one more list at most
 length-onto_first : {X : Type 0} (x : X) (parts : List (List X)) → length (onto_first x parts) ≤ suc (length parts)
 length-onto_first x [] = omega arith
 length-onto_first x (part ∷ parts) = omega arith
@@ -69,6 +73,7 @@ length-lines (byte ∷ bytes) =
     elim (byte == 10) as (λ b. length (cond b ([] ∷ lines bytes) (onto_first byte (lines bytes))) ≤ suc (length bytes))
     [ true ↦ omega (arith, fewer) | false ↦ omega (arith, fewer, length-onto_first byte (lines bytes)) ]
 
+-- A text gets no longer without its mark.
 pub length-without_byte_order_mark : (text : List ℕ) → length (without_byte_order_mark text) ≤ length text
 length-without_byte_order_mark text =
     elim (starts_with nat_eq text byte_order_mark) as (λ b. length (cond b (drop 3 text) text) ≤ length text)

@@ -1,5 +1,5 @@
 -- A name whose first character has been read.
-use Rattle.std.proofs.Common.{◌≡◌, ℕ, Bool, true, List, [], ◌∷◌, ◌++◌, ◌&&◌, chars, sym, ◌∙◌, ap, refl}
+use Rattle.std.proofs.Common.{◌≡◌, ℕ, Bool, true, List, ◌++◌, ◌&&◌, chars, sym, ◌∙◌, ap}
 use Rattle.std.proofs.Math.Utf8.{encode, scalars}
 use Rattle.std.specs.List.{list_all}
 use Rattle.std.specs.Str.{IsUtf8}

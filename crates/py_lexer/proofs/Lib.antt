@@ -1,2 +1,4 @@
 pub mod Cuts
 pub mod Identifiers
+pub mod Spelling
+pub mod FirstMarkers

@@ -1,4 +1,4 @@
-ghost use Rattle.std.specs.Prelude.{◌≡◌, ◌==◌};
+ghost use Rattle.std.specs.Prelude.{◌≡◌, ◌≤◌, ◌==◌, length};
 ghost use Rattle.std.specs.List.{position};
 ghost use Rattle.py_lexer.specs.Lines.{lines, lines_left};
 
@@ -11,7 +11,8 @@ pub struct Lines<'a> {
 impl<'a> Lines<'a> {
     /// The lines of a text. Behind the last line feed stands a line only where something stands there.
     pub fn new(text: &'a [u8]) -> Lines<'a>
-        ensures { lines_left result ≡ lines text.now }
+        ensures lines { lines_left result ≡ lines text.now }
+        ensures few { length (lines_left result) ≤ length text.now }
     {
         Lines { text }
     }
@@ -46,4 +47,25 @@ pub(crate) fn first_place(bytes: &[u8], byte: u8) -> Option<usize>
     ensures { result ≡ position (λ other. other == byte) bytes.now }
 {
     bytes.iter().position(|other| *other == byte)
+}
+
+#[cfg(test)]
+mod tests {
+    use super::*;
+
+    #[test]
+    fn ends_each_line_at_its_line_feed(rt: HostRuntime) {
+        let mut lines = Lines::new(b"a\r\n\nb");
+        assert_eq!(rt; lines.next(), Some(b"a\r".as_slice()));
+        assert_eq!(rt; lines.next(), Some(b"".as_slice()));
+        assert_eq!(rt; lines.next(), Some(b"b".as_slice()));
+        assert_eq!(rt; lines.next(), None);
+    }
+
+    #[test]
+    fn has_no_line_behind_the_last_line_feed(rt: HostRuntime) {
+        for (text, count) in [("", 0), ("\n", 1), ("a", 1), ("a\n", 1), ("a\n\n", 2)] {
+            assert_eq!(rt; Lines::new(text.as_bytes()).count(), count, "in {text}");
+        }
+    }
 }

@@ -1,7 +1,7 @@
-ghost use Rattle.std.specs.Prelude.{◌≡◌, ◌≤◌, ◌==◌, length};
+ghost use Rattle.std.specs.Prelude.{◌≡◌, ◌↔◌, ◌≤◌, ◌==◌, ℕ, IsTrue, List, Option, length};
 ghost use Rattle.std.specs.List.{before_first, list_all, list_any, position};
 ghost use Rattle.py_lexer.specs.Lines.{lines, without_byte_order_mark};
-ghost use Rattle.py_lexer.specs.Marker.{first_marker, IsFirstMarker, is_marker_line, part_of, after_spaces, is_name_and_spaces, is_space, marker_names};
+ghost use Rattle.py_lexer.specs.Marker.{first_marker, IsFirstMarker, is_marker_line, IsMarkerLine, part_of, after_spaces, is_name_and_spaces, is_space, marker_names};
 
 use crate::lines::{Lines, first_place};
 
@@ -15,10 +15,21 @@ const MARKER_NAMES: [&[u8]; 2] = [b"__strict__", b"__static__"];
 pub fn marker_line(text: &[u8]) -> Option<u32>
     requires { length text.now ≤ 1048576 }
     ensures exact { result ≡ first_marker text.now }
+    ensures first { IsFirstMarker text.now result }
 {
     let place = first_marker_place(without_byte_order_mark(text))?;
     Some(place as u32 + 1)
 }
+
+/// A text has one first marker.
+pub fn one_answer()
+    ensures { (text : List ℕ) (one other : Option ℕ) → IsFirstMarker text one → IsFirstMarker text other → one ≡ other }
+{}
+
+/// A line is a marker line by the test exactly where it is spelled as one.
+pub fn one_spelling()
+    ensures { (line : List ℕ) → IsTrue (is_marker_line line) ↔ IsMarkerLine line }
+{}
 
 /// The text without U+FEFF at its start.
 fn without_byte_order_mark(text: &[u8]) -> &[u8]
@@ -96,4 +107,36 @@ fn are_spaces(bytes: &[u8]) -> bool
     ensures { result ≡ list_all is_space bytes.now }
 {
     bytes.iter().all(|byte| *byte == b' ')
+}
+
+#[cfg(test)]
+mod tests {
+    use super::*;
+
+    #[test]
+    fn finds_the_first_marker_line(rt: HostRuntime) {
+        let cases = [
+            ("import __strict__\n", Some(1)),
+            ("import __static__", Some(1)),
+            ("import __strict__ # why\n", Some(1)),
+            ("import __strict__\r\n", Some(1)),
+            ("import __strict__\r# why\n", Some(1)),
+            ("import   __strict__  \n", Some(1)),
+            ("\u{feff}import __strict__\n", Some(1)),
+            ("x = 1\n\nimport __static__\nimport __strict__\n", Some(3)),
+            ("", None),
+            (" import __strict__\n", None),
+            ("import\t__strict__\n", None),
+            ("import __strict__x\n", None),
+            ("import __strict__\r\r\n", None),
+            ("import __strict__\r \n", None),
+            ("import__strict__\n", None),
+            ("# import __strict__\n", None),
+            ("\n\u{feff}import __strict__\n", None),
+        ];
+        for (text, line) in cases {
+            assert!(rt; text.len() <= 1_048_576);
+            assert_eq!(rt; marker_line(text.as_bytes()), line, "in {text}");
+        }
+    }
 }

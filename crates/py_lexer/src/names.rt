@@ -78,3 +78,40 @@ fn may_start_identifier(character: char) -> bool
 {
     is_xid_start(character) || character == '_'
 }
+
+#[cfg(test)]
+mod tests {
+    use super::*;
+    use std::test::Fail;
+
+    #[test]
+    fn takes_identifiers_in_their_composed_form(rt: HostRuntime) -> Result<(), Fail> {
+        let cases = [
+            ("name_1", true),
+            ("_", true),
+            ("\u{e9}", true),
+            ("e\u{301}", false),
+            ("\u{fb01}", false),
+            ("1a", false),
+            ("a-b", false),
+            ("", false),
+        ];
+        for (name, is_one) in cases {
+            assert_eq!(rt; is_identifier(rt.alloc(), name)?, is_one, "at {name}");
+        }
+        Ok(())
+    }
+
+    #[test]
+    fn knows_keywords_from_other_names(rt: HostRuntime) {
+        for (name, is_one) in [
+            ("False", true),
+            ("yield", true),
+            ("false", false),
+            ("match", false),
+            ("", false),
+        ] {
+            assert_eq!(rt; is_keyword(name.as_bytes()), is_one, "at {name}");
+        }
+    }
+}
