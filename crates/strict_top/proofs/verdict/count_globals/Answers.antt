@@ -9,7 +9,7 @@ use Rattle.strict_top.proofs.verdict.count_globals.Goals as goal
 
 pub loop-line-init : goal.loop-line-init
 loop-line-init c =
-    let below : lines_left c.next.new.self ≡ drop 1 (lines c.args.text.now) = left-next (lines_left c.new-lines.result) (lines_left c.next.new.self) c.next.result c.next.ensures.steps ∙ ap (drop 1) c.new-lines.ensures in
+    let below : lines_left c.next.new.self ≡ drop 1 (lines c.args.text.now) = left-next (lines_left c.new-lines.result) (lines_left c.next.new.self) c.next.result c.next.ensures.steps ∙ ap (drop 1) c.new-lines.ensures.lines in
     let left : lines_left c.into_iter-line-iterator.result ≡ drop 1 (lines c.args.text.now) = ap lines_left c.into_iter-line-iterator.ensures.into_iter_gives ∙ below in
     ap (λ keys. with_names (pointed keys) (filter_map bound_by (lines_left c.into_iter-line-iterator.result))) c.new-names.ensures.empty
     ∙ (ap (λ ls. with_names [] (filter_map bound_by ls)) left ∙ with_names-each_once (filter_map bound_by (drop 1 (lines c.args.text.now))))
