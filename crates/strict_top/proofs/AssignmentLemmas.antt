@@ -1,4 +1,4 @@
--- Names in a table.
+-- Names in a table, and the name that a line binds.
 use Rattle.std.specs.Prelude.{if◌then◌else◌, codes, nat_eq, position}
 use Rattle.std.proofs.Common.{◌≡◌, ℕ, ◌==◌, ◌<◌, ◌≤◌, Bool, true, false, ◌&&◌, List, [], ◌∷◌, map, length, take, drop, Option, Some, None, refl, sym, ap, ◌∙◌, arith, Bor, eqb}
 use Rattle.std.proofs.lemmas.Bool.Decides.{nat_tests}
@@ -58,10 +58,12 @@ bound_with-some names literals line place some =
 
 -- a line with no space binds nothing
 pub bound_by-none : (line : List ℕ) → None ≡ position is_space line → bound_by line ≡ None
+unfolding bound_by
 bound_by-none line none = bound_with-none is_name is_literal line (sym none)
 
 -- a line is cut at its first space
 pub bound_by-cut : (line front rest : List ℕ) (place : ℕ) → Some place ≡ position is_space line → front ≡ take place line → rest ≡ drop place line → bound_by line ≡ bound_with is_name is_literal front rest
+unfolding bound_by
 bound_by-cut line front rest place some is_front is_rest = bound_with-some is_name is_literal line place (sym some) ∙ cc (ap (bound_with is_name is_literal (take place line)) (sym is_rest), ap (λ name. bound_with is_name is_literal name rest) (sym is_front))
 
 -- where no ` = ` follows, nothing is bound

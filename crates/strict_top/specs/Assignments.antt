@@ -38,7 +38,7 @@ is_literal [] = false
 is_literal (first ∷ rest) = list_all is_ascii_digit (first ∷ rest) && (not (first == 48) || list_all (λ digit. digit == 48) rest) && nat_le (digits_value 10 (first ∷ rest)) greatest_int
 
 -- The name that a line `NAME = INT` binds, or none where the line is no such line.
-abbrev pub bound_by : List ℕ → Option (List ℕ)
+unfoldable pub bound_by : List ℕ → Option (List ℕ)
 bound_by line =
     let name = before_first (λ byte. byte == 32) line in
     let rest = drop (length name) line in

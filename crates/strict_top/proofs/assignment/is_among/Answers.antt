@@ -1,3 +1,4 @@
+-- The names that are pointed to are compared by their bytes.
 use Rattle.std.proofs.Common.{◌∙◌}
 use Rattle.strict_top.proofs.AssignmentLemmas.{list_any-pointed}
 use Rattle.strict_top.proofs.assignment.is_among.Goals as goal
