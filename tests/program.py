@@ -65,5 +65,5 @@ with tempfile.TemporaryDirectory() as top:
     os.close(reader)
     wrong += differs("a closed output", run(top, ["d"], writer), (None, 5, b""))
     os.close(writer)
-print(f"tests/program: {len(ROWS) + 2 - wrong} rows as they must be, {wrong} not")
+print(f"tests/program.py: {len(ROWS) + 2 - wrong} rows as they must be, {wrong} not")
 sys.exit(1 if wrong else 0)

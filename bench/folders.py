@@ -27,7 +27,7 @@ def measure(folder, runs=5):
         best = min(best, time.perf_counter() - begun)
         peak = max(peak, usage.ru_maxrss * 1024)
         if status:
-            sys.exit(f"bench/folders: the program ended with {status}")
+            sys.exit(f"bench/folders.py: the program ended with {status}")
     return best, peak
 
 
@@ -44,5 +44,5 @@ for modules, lines in [(0, LINES), (100, LINES), (300, LINES), (1000, LINES), (3
         seconds[modules] = took
     print(f"{modules:5} modules of {lines:6} lines: {size:9} bytes, {took:8.4f} s, {peak // 1024:7} KiB")
 ratio = seconds[1000] / seconds[100]
-print(f"bench/folders: 1,000 modules take {ratio:.1f} times what 100 take")
+print(f"bench/folders.py: 1,000 modules take {ratio:.1f} times what 100 take")
 sys.exit(1 if wrong or ratio > 15 else 0)
