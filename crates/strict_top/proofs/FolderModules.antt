@@ -1,11 +1,11 @@
 -- What was listed and read of a directory is its modules.
-use Rattle.std.proofs.Common.{◌≡◌, ◌≢◌, ◌||◌, ℕ, Bool, true, false, IsTrue, is_some, Option, Some, None, List, [], ◌∷◌, ◌++◌, map, codes, refl, sym, ap, ◌∙◌, subst, string_bytes, String, Global}
+use Rattle.std.proofs.Common.{◌≡◌, ◌≢◌, ◌||◌, ℕ, Bool, true, false, IsTrue, is_some, Option, Some, None, List, [], ◌∷◌, ◌++◌, map, refl, sym, ap, ◌∙◌, subst, string_bytes, String, Global}
 use Rattle.std.specs.Bool.{if◌then◌else◌}
 use Rattle.std.specs.Prelude.{T}
 use Rattle.std.specs.declared.cmp.Ordering.{Ordering}
 use Rattle.std.specs.declared.cmp.Ordering.TheVariants.{Less, Equal, Greater}
 use Rattle.std.specs.Option.{option_map}
-use Rattle.std.specs.FinMap.{find, get, keys, is_sorted, entries, from_entries, contains_key, entries_sorted, get-entries, get-from_entries, contains_key-keys}
+use Rattle.std.specs.FinMap.{find, get, keys, is_sorted, entries, from_entries, entries_sorted, get-entries, get-from_entries, contains_key-keys}
 use Rattle.std.specs.FinMap.Entries.{is_some-find, below_all}
 use Rattle.std.specs.Cmp.Lexicographic.{nat_list_cmp_total}
 use Rattle.std.specs.List.{list_any, filter_map, cons_option, AllByRecursion}
@@ -17,7 +17,7 @@ use Rattle.std.proofs.lemmas.Bool.{false_from_ne_true}
 use Rattle.std.proofs.lemmas.List.Sorted.{list_any-IsPermutation}
 use Rattle.std.proofs.lemmas.Slice.Eq.{bytes_eq-Decides}
 use Rattle.std.proofs.lemmas.Option.{same_Some}
-use Rattle.outside.specs.Files.{Files, Told, Untold, Missing, Holds, IsListing, IsThere, IsReading, front_of}
+use Rattle.outside.specs.Files.{Files, Told, Untold, Missing, Holds, IsListing, IsThere, front_of}
 use Rattle.strict_top.specs.Modules.{Source, modules, module_in, source_in, AreModules, AreRead, IsSourceIn}
 use Rattle.strict_top.proofs.ModuleLemmas.{module_file, ending}
 use Rattle.strict_top.proofs.SortedNames.{name_cmp, keyed, same_names, sorted_entries, left_holds, right_holds}

@@ -1,11 +1,10 @@
 -- What has been read and decided so far.
-use Rattle.std.proofs.Common.{◌≡◌, ℕ, List, [], ◌∷◌, ◌++◌, map, codes, refl, sym, ap, ◌∙◌, subst, string_bytes, Bor, String, Global}
+use Rattle.std.proofs.Common.{◌≡◌, ℕ, List, [], ◌∷◌, ◌++◌, map, codes, refl, sym, ap, ◌∙◌, string_bytes, Bor, String, Global}
 use Rattle.std.specs.List.{AllByRecursion}
 use Rattle.std.proofs.lemmas.List.{map-append}
 use Rattle.outside.specs.Files.{Told, IsReading}
 use Rattle.strict_top.specs.Modules.{Source, AreRead, IsSourceIn}
 use Rattle.strict_top.specs.Reports.{Judged, judged}
-use Rattle.strict_top.specs.Verdicts.{verdict_of}
 
 -- Modules of these names were read, and decided as listed.
 pub record IsRead (told : Told) (names : List (List ℕ)) (decided : List Judged) : Type 0 where

@@ -1,5 +1,5 @@
 -- The lines of a report, one after the other.
-use Rattle.std.proofs.Common.{◌≡◌, ◌<◌, ℕ, ◌+◌, suc, List, [], ◌∷◌, ◌++◌, ◌||◌, refl, length, get_or, drop, map, string_bytes, sym, ap, ◌∙◌, add-one, drop-cons}
+use Rattle.std.proofs.Common.{◌≡◌, ◌<◌, ℕ, ◌+◌, suc, List, [], ◌∷◌, ◌++◌, ◌||◌, refl, length, get_or, drop, map, sym, ap, ◌∙◌, add-one, drop-cons}
 use Rattle.std.specs.List.{flat_map, list_any}
 use Rattle.strict_top.specs.Decided.{view_of}
 use Rattle.strict_top.specs.declared.report.Decided.{Decided}

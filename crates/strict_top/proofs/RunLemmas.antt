@@ -1,11 +1,11 @@
 -- What the answers of a run tell, from what was done with its report.
-use Rattle.std.proofs.Common.{◌≡◌, ◌≢◌, ℕ, IfSome, Option, Some, None, List, [], map, refl, sym, ap, ◌∙◌, subst, take, true, false}
+use Rattle.std.proofs.Common.{◌≡◌, ◌≢◌, ℕ, IfSome, Option, Some, None, List, map, refl, sym, ap, ◌∙◌, subst, take, true, false}
 use Rattle.outside.specs.Bytes.{Appends}
 use Rattle.outside.specs.Faults.{HasRisen}
 use Rattle.outside.specs.Files.{Told, Untold, Missing, Holds}
 use Rattle.strict_top.specs.declared.status.Status.{Status}
 use Rattle.strict_top.specs.declared.status.Status.TheVariants.{Done, Raised, Refused, BadWords, FolderFault, SinkFault, OutOfMemory, TooLarge}
-use Rattle.strict_top.specs.Modules.{Source, AreModules, modules}
+use Rattle.strict_top.specs.Modules.{Source, AreModules}
 use Rattle.strict_top.specs.Reports.{Report, report_of, report_on, bad_words, Judged, judged, is_refused_module}
 use Rattle.strict_top.specs.Words.{directory_of}
 use Rattle.strict_top.specs.Runs.{IsReportNamed, IsReport, HasEnded, Writes, WritesFront, WritesReport, report_named, report_in}

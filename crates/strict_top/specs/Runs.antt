@@ -4,7 +4,7 @@ use Rattle.outside.specs.Bytes.{Appends}
 use Rattle.outside.specs.Faults.{HasRisen}
 use Rattle.outside.specs.Files.{Told, Untold, Missing, Holds}
 use Rattle.strict_top.specs.declared.status.Status.{Status}
-use Rattle.strict_top.specs.declared.status.Status.TheVariants.{Done, Raised, Refused, BadWords, FolderFault, SinkFault, OutOfMemory, TooLarge}
+use Rattle.strict_top.specs.declared.status.Status.TheVariants.{FolderFault, SinkFault, OutOfMemory}
 use Rattle.strict_top.specs.Modules.{Source, AreModules, modules}
 use Rattle.strict_top.specs.Reports.{Report, report_on, bad_words}
 use Rattle.strict_top.specs.Words.{directory_of}

@@ -13,7 +13,7 @@ ghost use Rattle.strict_top.specs.Verdicts.{verdict_of};
 use crate::report::Decided;
 use crate::verdict::{Verdict, decide};
 use outside::folder::{Folder, FolderFault};
-use py_lexer::names::{is_identifier, is_keyword};
+use py_lexer::names::{is_among, is_identifier, is_keyword};
 use std::alloc::{AllocError, Global};
 use std::collections::BTreeSet;
 
@@ -79,7 +79,7 @@ fn is_module_name(alloc: Global, name: &str) -> Result<bool, AllocError>
 fn is_reserved(name: &[u8]) -> bool
     ensures { result ≡ list_any (bytes_eq name.now) reserved_modules }
 {
-    RESERVED.iter().any(|reserved| name == *reserved)
+    is_among(name, &RESERVED)
 }
 
 /// Reads and decides the modules of these names, one after the other.

@@ -4,7 +4,7 @@ use Rattle.std.specs.List.{list_any, filter_map, AllByRecursion}
 use Rattle.std.specs.Str.{bytes_eq}
 use Rattle.std.proofs.lemmas.List.Elements.{All-from_recursion}
 use Rattle.std.proofs.lemmas.Result.{IfOk-weaker}
-use Rattle.outside.specs.Files.{Told, IsListing, IsThere}
+use Rattle.outside.specs.Files.{Told, IsThere}
 use Rattle.strict_top.specs.Decided.{view_of}
 use Rattle.strict_top.specs.Modules.{Source, AreModules, AreRead, module_in}
 use Rattle.strict_top.specs.Reports.{judged}

@@ -1,5 +1,4 @@
-use Rattle.std.proofs.Common.{◌≡◌, ℕ, List, [], ◌∷◌, ◌++◌, map, codes, string_bytes, sym, ap, ◌∙◌, subst}
-use Rattle.std.proofs.lemmas.List.{map-append}
+use Rattle.std.proofs.Common.{◌≡◌, ℕ, List, ◌++◌, map, codes, sym, ◌∙◌, subst}
 use Rattle.outside.specs.Files.{Told, IsReading}
 use Rattle.strict_top.specs.Decided.{view_of}
 use Rattle.strict_top.specs.Reports.{Judged, judged}

@@ -1,7 +1,5 @@
-use Rattle.std.proofs.Common.{◌≡◌, ℕ, List, map, string_bytes}
+use Rattle.std.proofs.Common.{◌≡◌, map, string_bytes}
 use Rattle.strict_top.specs.Decided.{view_of}
-use Rattle.strict_top.specs.Modules.{Source, AreRead}
-use Rattle.strict_top.specs.Reports.{judged}
 use Rattle.strict_top.proofs.Reading.{IsRead}
 use Rattle.strict_top.proofs.modules.decide_each.Given as goal
 

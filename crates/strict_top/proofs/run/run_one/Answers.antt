@@ -1,4 +1,4 @@
-use Rattle.std.proofs.Common.{◌∙◌, ap, map, refl, inr, string_bytes, List, ℕ, sym}
+use Rattle.std.proofs.Common.{◌∙◌, ap, map, refl, inr, string_bytes}
 use Rattle.strict_top.specs.Decided.{view_of}
 use Rattle.strict_top.specs.Reports.{report_of, bad_words}
 use Rattle.strict_top.specs.Words.{directory_of}
