@@ -18,7 +18,8 @@ use Rattle.std.proofs.lemmas.List.Sorted.{list_any-IsPermutation}
 use Rattle.std.proofs.lemmas.Slice.Eq.{bytes_eq-Decides}
 use Rattle.std.proofs.lemmas.Option.{same_Some}
 use Rattle.outside.specs.Files.{Files, Told, Untold, Missing, Holds, IsListing, IsThere, front_of}
-use Rattle.strict_top.specs.Modules.{Source, modules, module_in, source_in, AreModules, AreRead, IsSourceIn}
+use Rattle.strict_top.specs.Modules.{Source, modules, module_in, source_in, AreModules}
+use Rattle.strict_top.specs.Steps.{AreRead, IsSourceIn}
 use Rattle.strict_top.proofs.ModuleLemmas.{module_file, ending}
 use Rattle.strict_top.proofs.SortedNames.{name_cmp, keyed, same_names, sorted_entries, left_holds, right_holds}
 

@@ -3,8 +3,9 @@ use Rattle.std.proofs.Common.{◌≡◌, ℕ, List, [], ◌∷◌, ◌++◌, map
 use Rattle.std.specs.List.{AllByRecursion}
 use Rattle.std.proofs.lemmas.List.{map-append}
 use Rattle.outside.specs.Files.{Told, IsReading}
-use Rattle.strict_top.specs.Modules.{Source, AreRead, IsSourceIn}
+use Rattle.strict_top.specs.Modules.{Source}
 use Rattle.strict_top.specs.Reports.{Judged, judged}
+use Rattle.strict_top.specs.Steps.{AreRead, IsSourceIn}
 
 -- Modules of these names were read, and decided as listed.
 pub record IsRead (told : Told) (names : List (List ℕ)) (decided : List Judged) : Type 0 where

@@ -8,7 +8,8 @@ use Rattle.strict_top.specs.declared.status.Status.TheVariants.{Done, Raised, Re
 use Rattle.strict_top.specs.Modules.{Source, AreModules}
 use Rattle.strict_top.specs.Reports.{Report, report_of, report_on, bad_words, Judged, judged, is_refused_module}
 use Rattle.strict_top.specs.Words.{directory_of}
-use Rattle.strict_top.specs.Runs.{IsReportNamed, IsReport, HasEnded, Writes, WritesFront, WritesReport, report_named, report_in}
+use Rattle.strict_top.specs.Runs.{IsReportNamed, IsReport, HasEnded, WritesFront, WritesReport, report_named, report_in}
+use Rattle.strict_top.specs.Steps.{Writes}
 use Rattle.std.specs.Bool.{if◌then◌else◌}
 use Rattle.std.specs.List.{list_any}
 

@@ -5,10 +5,10 @@ ghost use Rattle.std.specs.Str.{bytes_eq};
 ghost use Rattle.std.specs.String.{string_cmp};
 ghost use Rattle.outside.specs.Faults.{CountsFolder};
 ghost use Rattle.outside.specs.Files.{IsListing, IsThere, IsReading};
-ghost use Rattle.strict_top.specs.Decided.{view_of};
-ghost use Rattle.strict_top.specs.Modules.{Source, AreModules, AreRead, is_module_name, module_in, reserved_modules};
+ghost use Rattle.strict_top.specs.Modules.{Source, AreModules, is_module_name, module_in, reserved_modules};
 ghost use Rattle.strict_top.specs.Reports.{judged};
 ghost use Rattle.strict_top.specs.Verdicts.{verdict_of};
+ghost use Rattle.strict_top.specs.Steps.{AreRead, view_of};
 
 use crate::report::Decided;
 use crate::verdict::{Verdict, decide};

@@ -3,7 +3,7 @@ ghost use Rattle.std.specs.Option.{ForSome};
 ghost use Rattle.outside.specs.Bytes.{Appends, Takes};
 ghost use Rattle.outside.specs.Faults.{CountsSink};
 ghost use Rattle.strict_top.specs.Reports.{verdict_line, report_of, is_refused};
-ghost use Rattle.strict_top.specs.Decided.{view_of};
+ghost use Rattle.strict_top.specs.Steps.{view_of};
 
 use crate::verdict::Verdict;
 use outside::sink::{Sink, SinkFault};

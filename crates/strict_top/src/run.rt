@@ -2,9 +2,9 @@ ghost use Rattle.std.specs.Prelude.{◌≡◌, ◌≢◌, ◌≤◌, ◌⊎◌, 
 ghost use Rattle.std.specs.Option.{ForSome};
 ghost use Rattle.outside.specs.Bytes.{Appends};
 ghost use Rattle.outside.specs.Faults.{HasRisen};
-ghost use Rattle.strict_top.specs.Decided.{view_of};
 ghost use Rattle.strict_top.specs.Reports.{Report, bad_words, report_of};
-ghost use Rattle.strict_top.specs.Runs.{report_of_run, IsReport, HasEnded, Writes, WritesFront, WritesReport};
+ghost use Rattle.strict_top.specs.Runs.{report_of_run, IsReport, HasEnded, WritesFront, WritesReport};
+ghost use Rattle.strict_top.specs.Steps.{Writes, view_of};
 
 use crate::modules::decide_all;
 use crate::report::{Decided, write_all, write_report};

@@ -5,9 +5,9 @@ use Rattle.std.specs.Str.{bytes_eq}
 use Rattle.std.proofs.lemmas.List.Elements.{All-from_recursion}
 use Rattle.std.proofs.lemmas.Result.{IfOk-weaker}
 use Rattle.outside.specs.Files.{Told, IsThere}
-use Rattle.strict_top.specs.Decided.{view_of}
-use Rattle.strict_top.specs.Modules.{Source, AreModules, AreRead, module_in}
+use Rattle.strict_top.specs.Modules.{Source, AreModules, module_in}
 use Rattle.strict_top.specs.Reports.{judged}
+use Rattle.strict_top.specs.Steps.{AreRead, view_of}
 use Rattle.strict_top.proofs.FolderModules.{any_key, each_key, names_there, sources_are}
 use Rattle.strict_top.proofs.SortedNames.{sorted_keys}
 use Rattle.strict_top.proofs.modules.decide_all.Goals as goal

@@ -1,7 +1,7 @@
 use Rattle.std.proofs.Common.{◌≡◌, ℕ, List, ◌++◌, map, codes, sym, ◌∙◌, subst}
 use Rattle.outside.specs.Files.{Told, IsReading}
-use Rattle.strict_top.specs.Decided.{view_of}
 use Rattle.strict_top.specs.Reports.{Judged, judged}
+use Rattle.strict_top.specs.Steps.{view_of}
 use Rattle.strict_top.proofs.Reading.{IsRead, read_more, names_yielded}
 use Rattle.strict_top.proofs.modules.decide_each.Goals as goal
 

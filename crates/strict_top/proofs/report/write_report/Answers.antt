@@ -1,7 +1,7 @@
 use Rattle.std.proofs.Common.{map, subst, refl, ◌∙◌}
 use Rattle.std.proofs.lemmas.Result.{err_from_is_err_and}
-use Rattle.strict_top.specs.Decided.{view_of}
 use Rattle.strict_top.specs.Reports.{report_of}
+use Rattle.strict_top.specs.Steps.{view_of}
 use Rattle.strict_top.proofs.ReportLemmas.{lines_from}
 use Rattle.strict_top.proofs.Writing.{HasWritten, goes_on, part_so_far, part_written}
 use Rattle.strict_top.proofs.report.write_report.Goals as goal
