@@ -39,7 +39,8 @@ impl<R> DiskFolder<R> {
     fn count_failure<T>(&mut self, answer: io::Result<T>) -> Result<T, FolderFault>
         ensures ok { IfOk answer (λ value. result ≡ Ok value) }
         ensures err { OnErr answer (IsErr result) }
-        ensures memory { IfErr answer (λ error. (result ≡ Err FolderFault.Memory) ↔ (error_kind error ≡ ErrorKind.OutOfMemory)) }
+        ensures memory { IfErr answer (λ error.
+            (result ≡ Err FolderFault.Memory) ↔ (error_kind error ≡ ErrorKind.OutOfMemory)) }
         ensures count { CountsFolder result self.old self.new }
     {
         match answer {
