@@ -1,16 +1,13 @@
 -- The files of a folder in memory: a directory's row that was found, a listing's names and a reading's bytes.
-use Rattle.std.proofs.Common.{◌≡◌, ℕ, nat_lt, Bool, true, false, cond, List, [], ◌∷◌, map, All, Option, Some, None, Bor, refl, sym, ap, subst, ◌∙◌}
+use Rattle.std.proofs.Common.{◌≡◌, ℕ, Bool, true, false, cond, List, [], ◌∷◌, map, All, Option, Some, None, Bor, refl, sym, ap, subst, ◌∙◌}
 use Rattle.std.specs.Prelude.{is_some, IsSome}
 use Rattle.std.specs.Option.{option_map, option_copied}
 use Rattle.std.specs.Cmp.Lexicographic.{slice_cmp, nat_list_cmp_total, nat_list_eq_equiv, texts_ties}
 use Rattle.std.specs.FinMap as fin
-use Rattle.std.specs.List.{find, list_all, IsDistinct}
+use Rattle.std.specs.List.{find, IsDistinct}
 use Rattle.std.specs.List.Sorted.{IsPermutation}
 use Rattle.std.specs.Ordering.{eq_by_cmp, nat_cmp}
-use Rattle.std.specs.Str.{IsAscii, IsUtf8, bytes_eq}
-use Rattle.std.proofs.lemmas.Bool.{and_parts, ltb-true}
-use Rattle.std.proofs.lemmas.Str.{IsUtf8-from_ascii}
-use Rattle.std.proofs.lemmas.Str.Ascii.{IsAscii-nil, IsAscii-cons}
+use Rattle.std.specs.Str.{bytes_eq}
 use Rattle.std.proofs.lemmas.List.Elements.{All-head, All-tail}
 use Rattle.outside.specs.declared.rows.FileRow.{FileRow}
 use Rattle.outside.specs.Files.{Holds, IsThere, IsReading, front_of}
@@ -56,13 +53,3 @@ IsSome-told rows name (Some row) found there = refl
 -- the front of its bytes is a reading of it
 pub IsReading-front : (rows : List FileRow) (name : List ℕ) (row : FileRow) (bytes : List ℕ) → row_in rows name ≡ Some row → bytes ≡ front_of row.bytes → IsReading (Holds (files_in rows)) name bytes
 IsReading-front rows name row bytes found is = ap (option_map front_of) (get-files_in rows name ∙ ap (option_map (λ (row : FileRow). row.bytes)) found) ∙ ap Some (sym is)
-
-ascii : (bytes : List ℕ) → list_all (λ byte. nat_lt byte 128) bytes ≡ true → IsAscii bytes
-ascii [] plain = IsAscii-nil
-ascii (byte ∷ bytes) plain =
-    let parts : (nat_lt byte 128 ≡ true) × (list_all (λ byte. nat_lt byte 128) bytes ≡ true) = and_parts _ _ plain in
-    IsAscii-cons byte bytes (ltb-true byte 128 parts.0) (ascii bytes parts.1)
-
--- a name of ASCII bytes is a text
-pub IsUtf8-plain : (name : List ℕ) → list_all (λ byte. nat_lt byte 128) name ≡ true → IsUtf8 name
-IsUtf8-plain name plain = IsUtf8-from_ascii name (ascii name plain)

@@ -1,2 +1,3 @@
 pub mod FilesInMemory
 pub mod MapKeys
+pub mod NameLists

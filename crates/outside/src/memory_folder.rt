@@ -1,4 +1,4 @@
-ghost use Rattle.std.specs.Prelude.{◌≡◌, ◌≤◌, List, [], length, map, vec_len, string_bytes, IfOk, IfErr, IfSome};
+ghost use Rattle.std.specs.Prelude.{◌≡◌, ◌≤◌, ◌↔◌, List, [], length, map, vec_len, string_bytes, IsTrue, IfOk, IfErr, IfSome};
 ghost use Rattle.std.specs.Option.{option_copied};
 ghost use Rattle.std.specs.List.{find};
 ghost use Rattle.std.specs.Str.{IsUtf8, bytes_eq};
@@ -8,9 +8,12 @@ ghost use Rattle.outside.specs.Files.{Holds, IsListing, IsThere, IsReading, fron
 ghost use Rattle.outside.specs.Memory.{AreFiles, AreDirs, rows_in, row_in, files_in, told_in, call_fails, list_fails, AnswersCall};
 
 use crate::folder::{Folder, FolderFault, READ_LIMIT};
+use crate::memory_folder::names::are_dirs;
 use crate::rows::{CallList, DirList, DirRow, FileRow};
 use std::alloc::{AllocError, Global};
 use std::marker::Model;
+
+mod names;
 
 /// A folder in memory, which fails at the calls that it was told.
 #[derive(Debug, Drop)]
@@ -49,6 +52,14 @@ impl MemoryFolder {
             calls: 0,
             faults: 0,
         }
+    }
+
+    /// Whether a folder may be made of these directories: their names, and those of the files in each, are texts and
+    /// stand once in their lists. It compares the names of a list pairwise.
+    pub fn takes(dirs: &[DirRow]) -> bool
+        ensures { IsTrue result ↔ AreDirs dirs.now }
+    {
+        are_dirs(dirs)
     }
 
     /// Counts a call, and fails it where it is to.

@@ -6,6 +6,7 @@ use super::MemoryFolder;
 use crate::folder::{Folder, FolderFault};
 use crate::rows::{Bytes, CallList, DirList, DirRow, FileList, FileRow};
 use std::alloc::{AllocError, Global};
+use std::process::Abort;
 use std::test::Fail;
 
 fn file(alloc: Global, name: &str, bytes: &[u8]) -> Result<FileRow, AllocError>
@@ -35,10 +36,16 @@ fn sample(alloc: Global) -> Result<DirList, AllocError>
     Ok(dirs)
 }
 
-fn sample_folder(alloc: Global, failing: CallList) -> Result<MemoryFolder, AllocError>
+fn sample_folder(
+    rt: &impl Abort,
+    alloc: Global,
+    failing: CallList,
+) -> Result<MemoryFolder, AllocError>
     ensures { IfOk result (λ folder. IsThere (told_in folder (codes "src")) (codes "b.py")) }
 {
-    Ok(MemoryFolder::new(sample(alloc)?, failing))
+    let dirs = sample(alloc)?;
+    assert!(rt; MemoryFolder::takes(dirs.as_slice()));
+    Ok(MemoryFolder::new(dirs, failing))
 }
 
 #[test]
@@ -46,7 +53,7 @@ fn gives_its_files_and_fails_when_told(rt: HostRuntime) -> Result<(), Fail> {
     let alloc = rt.alloc();
     let mut failing = CallList::new(alloc);
     failing.push(3)?;
-    let mut folder = sample_folder(alloc, failing)?;
+    let mut folder = sample_folder(&rt, alloc, failing)?;
 
     let names = folder.list(alloc, "src")?;
     assert_eq!(rt; names.len(), 2);
