@@ -1,4 +1,4 @@
-ghost use Rattle.std.specs.Prelude.{◌≡◌, ◌≢◌, [], ◌∷◌, ◌++◌, ℕ, List, IfOk, IfErr, OnOk, MatchOption, codes, map, string_bytes};
+ghost use Rattle.std.specs.Prelude.{◌≡◌, ◌≢◌, [], ◌∷◌, ◌++◌, ℕ, List, IfOk, OnOk, MatchOption, codes, map, string_bytes};
 ghost use Rattle.std.specs.BTreeSet.{contains_text, IsOrdered};
 ghost use Rattle.std.specs.List.{All, filter_map, list_any};
 ghost use Rattle.std.specs.Str.{bytes_eq};
@@ -38,9 +38,7 @@ pub(crate) fn decide_all<F: Folder>(
     ensures same { F.told folder.new ≡ F.told folder.old }
 {
     let files = folder.list(alloc, dir)?;
-    let Ok(names) = modules_among(alloc, &files) else {
-        return Err(FolderFault::Memory);
-    };
+    let names = modules_among(alloc, &files)?;
     decide_each(alloc, folder, dir, &names)
 }
 
@@ -109,17 +107,12 @@ fn add(
     decided: &mut Vec<Decided>,
     name: &str,
     verdict: Verdict,
-) -> Result<(), FolderFault>
-    ensures ok { OnOk result (map view_of decided.new.items ≡ map view_of decided.old.items ++ (name.now, verdict) ∷ []) }
-    ensures err { IfErr result (λ fault. fault ≡ FolderFault.Memory) }
+) -> Result<(), AllocError>
+    ensures { OnOk result (map view_of decided.new.items ≡ map view_of decided.old.items ++ (name.now, verdict) ∷ []) }
 {
-    let Ok(name) = String::from_str(alloc, name) else {
-        return Err(FolderFault::Memory);
-    };
-    match decided.push(Decided { name, verdict }) {
-        Ok(()) => Ok(()),
-        Err(_) => Err(FolderFault::Memory),
-    }
+    let name = String::from_str(alloc, name)?;
+    decided.push(Decided { name, verdict })?;
+    Ok(())
 }
 
 /// Reads and decides the module of that name.
@@ -134,12 +127,7 @@ fn decide_one<F: Folder>(
     ensures count { CountsFolder result (F.faults folder.old) (F.faults folder.new) }
     ensures same { F.told folder.new ≡ F.told folder.old }
 {
-    let Ok(file) = format!(in alloc; "{name}.py") else {
-        return Err(FolderFault::Memory);
-    };
+    let file = format!(in alloc; "{name}.py")?;
     let bytes = folder.read(alloc, dir, file.as_str())?;
-    let Ok(verdict) = decide(alloc, &bytes) else {
-        return Err(FolderFault::Memory);
-    };
-    Ok(verdict)
+    Ok(decide(alloc, &bytes)?)
 }

@@ -56,9 +56,7 @@ pub(crate) fn write_report<S: Sink>(
     ensures count { CountsSink result (S.faults sink.old) (S.faults sink.new) }
 {
     for entry in decided {
-        let Ok(line) = line_of(alloc, entry) else {
-            return Err(SinkFault::Memory);
-        };
+        let line = line_of(alloc, entry)?;
         write_all(sink, line.as_bytes())?;
     }
     Ok(())

@@ -20,7 +20,7 @@ loop-name-preserved g c =
       can = tt;
       ends = tt;
       read = subst (λ names. IsRead told names (map view_of c.add.new.decided.items)) (names_yielded c.loop-name.yielded c.in-Some.name name c.as_str-name.ensures.value)
-          (subst (IsRead told _) (sym c.in_ok-add.ensures.ok) more);
+          (subst (IsRead told _) (sym c.in_ok-add.ensures) more);
       count = c.in_ok-verdict.ensures.count ∙ c.loop-name.invariant.count;
       same = c.in_ok-verdict.ensures.same ∙ c.loop-name.invariant.same;
     }
