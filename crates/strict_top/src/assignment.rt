@@ -143,32 +143,3 @@ fn fits_int(digits: &[u8]) -> bool
         Err(_) => false,
     }
 }
-
-#[cfg(test)]
-mod tests {
-    use super::*;
-
-    #[test]
-    fn binds_names_to_integer_literals(rt: HostRuntime) {
-        let lines = [
-            (b"x = 9223372036854775807".as_slice(), Some(b"x".as_slice())),
-            (b"_x1 = 0".as_slice(), Some(b"_x1".as_slice())),
-            (b"__x = 00".as_slice(), Some(b"__x".as_slice())),
-            (b"x = 9223372036854775808".as_slice(), None),
-            (b"x = 01".as_slice(), None),
-            (b"x = -1".as_slice(), None),
-            (b"x = ".as_slice(), None),
-            (b"x = 1 ".as_slice(), None),
-            (b" x = 1".as_slice(), None),
-            (b"1x = 1".as_slice(), None),
-            (b"if = 1".as_slice(), None),
-            (b"len = 1".as_slice(), None),
-            (b"__x__ = 1".as_slice(), None),
-            (b"\xc3\xa9 = 1".as_slice(), None),
-            (b"".as_slice(), None),
-        ];
-        for (line, name) in lines {
-            assert_eq!(rt; bound_name(line), name, "at {line:?}");
-        }
-    }
-}

@@ -95,3 +95,6 @@ fn status_of(decided: &[Decided]) -> Status
         Status::Done
     }
 }
+
+#[cfg(test)]
+mod tests;
