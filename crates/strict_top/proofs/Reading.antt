@@ -1,5 +1,5 @@
 -- What has been read and decided so far.
-use Rattle.std.proofs.Common.{◌≡◌, ℕ, List, [], ◌∷◌, ◌++◌, map, codes, refl, sym, ap, ◌∙◌, string_bytes, Bor, String, Global}
+use Rattle.std.proofs.Common.{◌≡◌, ℕ, List, [], ◌∷◌, ◌++◌, map, codes, sym, ap, ◌∙◌, string_bytes, Bor, String, Global}
 use Rattle.std.specs.List.{AllByRecursion}
 use Rattle.std.proofs.lemmas.List.{map-append}
 use Rattle.outside.specs.Files.{Told, IsReading}
@@ -12,9 +12,6 @@ pub record IsRead (told : Told) (names : List (List ℕ)) (decided : List Judged
   pub sources : List Source
   pub read : AreRead told names sources
   pub verdicts : decided ≡ map judged sources
-
-pub none_read : (told : Told) → IsRead told [] []
-none_read told = record { sources = []; read = record { named = refl; each = tt }; verdicts = refl }
 
 each_more : (told : Told) (sources : List Source) (source : Source) → AllByRecursion (IsSourceIn told) sources → IsSourceIn told source → AllByRecursion (IsSourceIn told) (sources ++ source ∷ [])
 each_more told [] source each one = (one, tt)

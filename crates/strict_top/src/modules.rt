@@ -1,11 +1,12 @@
-ghost use Rattle.std.specs.Prelude.{◌≡◌, ◌≢◌, [], ◌∷◌, ◌++◌, ℕ, List, IfOk, OnOk, MatchOption, codes, map, string_bytes};
+ghost use Rattle.std.specs.Prelude.{◌≡◌, ◌≢◌, ◌↔◌, [], ◌∷◌, ◌++◌, ℕ, List, IfOk, OnOk, MatchOption, codes, map, string_bytes};
 ghost use Rattle.std.specs.BTreeSet.{contains_text, IsOrdered};
-ghost use Rattle.std.specs.List.{All, filter_map, list_any};
+ghost use Rattle.std.specs.List.{All, Contains, filter_map, list_any};
+ghost use Rattle.std.specs.List.Sorted.{IsStrictlySortedBy};
 ghost use Rattle.std.specs.Str.{bytes_eq};
 ghost use Rattle.std.specs.String.{string_cmp};
 ghost use Rattle.outside.specs.Faults.{CountsFolder};
-ghost use Rattle.outside.specs.Files.{IsListing, IsThere, IsReading};
-ghost use Rattle.strict_top.specs.Modules.{Source, AreModules, is_module_name, module_in, reserved_modules};
+ghost use Rattle.outside.specs.Files.{Files, IsListing, IsThere, IsReading};
+ghost use Rattle.strict_top.specs.Modules.{Source, AreModules, LiesIn, modules, source_cmp, is_module_name, module_in, reserved_modules};
 ghost use Rattle.strict_top.specs.Reports.{judged};
 ghost use Rattle.strict_top.specs.Verdicts.{verdict_of};
 ghost use Rattle.strict_top.specs.Steps.{AreRead, view_of};
@@ -41,6 +42,12 @@ pub(crate) fn decide_all<F: Folder>(
     let names = modules_among(alloc, &files)?;
     decide_each(alloc, folder, dir, &names)
 }
+
+/// The law of the modules of a directory: they are exactly those that lie in it, and each name is below the next.
+pub fn modules_of_a_directory()
+    ensures members { (files : Files) (source : Source) → Contains (modules files) source ↔ LiesIn files source }
+    ensures ordered { (files : Files) → IsStrictlySortedBy source_cmp (modules files) }
+{}
 
 /// The names of the modules that lie in the files of these names.
 fn modules_among(alloc: Global, files: &[String]) -> Result<BTreeSet<String>, AllocError>
