@@ -34,7 +34,9 @@ pub(crate) fn decide_all<F: Folder>(
     folder: &mut F,
     dir: &str,
 ) -> Result<Vec<Decided>, FolderFault>
-    ensures decided { IfOk result (λ decided. (sources : List Source) × AreModules (F.told folder.old dir.now) sources × (map view_of decided.items ≡ map judged sources)) }
+    ensures decided { IfOk result (λ decided. (sources : List Source)
+        × AreModules (F.told folder.old dir.now) sources
+        × (map view_of decided.items ≡ map judged sources)) }
     ensures count { CountsFolder result (F.faults folder.old) (F.faults folder.new) }
     ensures same { F.told folder.new ≡ F.told folder.old }
 {
@@ -51,7 +53,8 @@ pub fn modules_of_a_directory()
 
 /// The names of the modules that lie in the files of these names.
 fn modules_among(alloc: Global, files: &[String]) -> Result<BTreeSet<String>, AllocError>
-    ensures members { IfOk result (λ names. (name : List ℕ) → contains_text names name ≡ list_any (bytes_eq name) (filter_map module_in (map string_bytes files.now))) }
+    ensures members { IfOk result (λ names. (name : List ℕ) → contains_text names name
+        ≡ list_any (bytes_eq name) (filter_map module_in (map string_bytes files.now))) }
     ensures ordered { IfOk result (IsOrdered string_cmp) }
 {
     let mut names = BTreeSet::new(alloc);
@@ -68,7 +71,9 @@ fn modules_among(alloc: Global, files: &[String]) -> Result<BTreeSet<String>, Al
 
 /// The name of a file without the ending of Python modules, where it has it.
 fn stem_of(file: &str) -> Option<&str>
-    ensures { MatchOption result ((stem : List ℕ) → file.now ≢ stem ++ codes ".py") (λ stem. file.now ≡ stem.now ++ codes ".py") }
+    ensures { MatchOption result
+        ((stem : List ℕ) → file.now ≢ stem ++ codes ".py")
+        (λ stem. file.now ≡ stem.now ++ codes ".py") }
 {
     file.strip_suffix(".py")
 }
@@ -94,8 +99,11 @@ fn decide_each<F: Folder>(
     dir: &str,
     names: &BTreeSet<String>,
 ) -> Result<Vec<Decided>, FolderFault>
-    requires { All (λ name. IsThere (F.told folder.old dir.now) (string_bytes name ++ codes ".py")) names.now.keys }
-    ensures decided { IfOk result (λ decided. (sources : List Source) × AreRead (F.told folder.old dir.now) (map string_bytes names.now.keys) sources × (map view_of decided.items ≡ map judged sources)) }
+    requires { All (λ name. IsThere (F.told folder.old dir.now) (string_bytes name ++ codes ".py"))
+        names.now.keys }
+    ensures decided { IfOk result (λ decided. (sources : List Source)
+        × AreRead (F.told folder.old dir.now) (map string_bytes names.now.keys) sources
+        × (map view_of decided.items ≡ map judged sources)) }
     ensures count { CountsFolder result (F.faults folder.old) (F.faults folder.new) }
     ensures same { F.told folder.new ≡ F.told folder.old }
 {
@@ -115,7 +123,8 @@ fn add(
     name: &str,
     verdict: Verdict,
 ) -> Result<(), AllocError>
-    ensures { OnOk result (map view_of decided.new.items ≡ map view_of decided.old.items ++ (name.now, verdict) ∷ []) }
+    ensures { OnOk result
+        (map view_of decided.new.items ≡ map view_of decided.old.items ++ (name.now, verdict) ∷ []) }
 {
     let name = String::from_str(alloc, name)?;
     decided.push(Decided { name, verdict })?;
@@ -130,7 +139,9 @@ fn decide_one<F: Folder>(
     name: &str,
 ) -> Result<Verdict, FolderFault>
     requires { IsThere (F.told folder.old dir.now) (name.now ++ codes ".py") }
-    ensures decided { IfOk result (λ verdict. (bytes : List ℕ) × IsReading (F.told folder.old dir.now) (name.now ++ codes ".py") bytes × (verdict ≡ verdict_of bytes)) }
+    ensures decided { IfOk result (λ verdict. (bytes : List ℕ)
+        × IsReading (F.told folder.old dir.now) (name.now ++ codes ".py") bytes
+        × (verdict ≡ verdict_of bytes)) }
     ensures count { CountsFolder result (F.faults folder.old) (F.faults folder.new) }
     ensures same { F.told folder.new ≡ F.told folder.old }
 {
