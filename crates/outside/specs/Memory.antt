@@ -1,10 +1,10 @@
 -- A folder in memory: what it tells, and what a call of it does.
-use Rattle.std.specs.Prelude.{◌≡◌, ℕ, Bool, true, false, List, map, All, Option, Some, None, is_none, Result, Ok, Err}
+use Rattle.std.specs.Prelude.{◌≡◌, ℕ, Bool, true, false, ◌||◌, List, map, All, Option, Some, None, is_none, Result, Ok, Err}
 use Rattle.std.specs.Option.{option_map}
 use Rattle.std.specs.List.{find, IsDistinct}
 use Rattle.std.specs.Str.{IsUtf8, bytes_eq}
 use Rattle.std.specs.FinMap.{from_entries}
-use Rattle.outside.specs.Calls.{next_count}
+use Rattle.outside.specs.Calls.{next_count, is_due}
 use Rattle.outside.specs.declared.folder.FolderFault.{FolderFault}
 use Rattle.outside.specs.declared.folder.FolderFault.TheVariants.{Failed, Memory}
 use Rattle.outside.specs.declared.rows.FileRow.{FileRow}
@@ -48,18 +48,22 @@ told_by (Some rows) = Holds (files_in rows)
 abbrev pub told_in : FolderState → List ℕ → Told
 told_in folder name = told_by (rows_in folder.dirs name)
 
-abbrev pub is_missing : FolderState → List ℕ → Bool
-is_missing folder name = is_none (rows_in folder.dirs name)
+-- Whether the next call fails whatever it is, and whether it fails if it lists the directory of that name.
+abbrev pub call_fails : FolderState → Bool
+call_fails folder = is_due folder.failing folder.calls
+
+abbrev pub list_fails : FolderState → List ℕ → Bool
+list_fails folder name = call_fails folder || is_none (rows_in folder.dirs name)
 
 -- The folder after a call that didn't fail, and after one that did.
-abbrev pub called : FolderState → FolderState
-called folder = record folder { calls = next_count folder.calls }
+abbrev pub after_call : FolderState → FolderState
+after_call folder = record folder { calls = next_count folder.calls }
 
-abbrev pub failed : FolderState → FolderState
-failed folder = record folder { calls = next_count folder.calls; faults = next_count folder.faults }
+abbrev pub after_failure : FolderState → FolderState
+after_failure folder = record folder { calls = next_count folder.calls; faults = next_count folder.faults }
 
 -- What a call does: it fails exactly where it is to.
 abbrev pub AnswersCall : {T : Type 0} → Result T FolderFault → Bool → FolderState → FolderState → Type 0
-AnswersCall (Ok x) fails before now = (fails ≡ false) × (now ≡ called before)
-AnswersCall (Err Failed) fails before now = (fails ≡ true) × (now ≡ failed before)
-AnswersCall (Err Memory) fails before now = (fails ≡ false) × (now ≡ called before)
+AnswersCall (Ok x) fails before now = (fails ≡ false) × (now ≡ after_call before)
+AnswersCall (Err Failed) fails before now = (fails ≡ true) × (now ≡ after_failure before)
+AnswersCall (Err Memory) fails before now = (fails ≡ false) × (now ≡ after_call before)

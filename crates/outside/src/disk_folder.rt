@@ -39,7 +39,8 @@ impl<R> DiskFolder<R> {
     fn count_failure<T>(&mut self, answer: io::Result<T>) -> Result<T, FolderFault>
         ensures ok { IfOk answer (λ value. result ≡ Ok value) }
         ensures err { OnErr answer (IsErr result) }
-        ensures memory { IfErr answer (λ error. (result ≡ Err FolderFault.Memory) ↔ (error_kind error ≡ ErrorKind.OutOfMemory)) }
+        ensures memory { IfErr answer (λ error.
+            (result ≡ Err FolderFault.Memory) ↔ (error_kind error ≡ ErrorKind.OutOfMemory)) }
         ensures count { CountsFolder result self.old self.new }
     {
         match answer {
@@ -86,9 +87,9 @@ fn file_names<R: Files>(rt: &R, alloc: Global, dir: &str) -> io::Result<Vec<Stri
     Ok(names)
 }
 
-/// Whether a regular file stands there, or where a symlink leads: no directory, and no pipe, which a reading might wait
-/// for without end. What has vanished, and a symlink
-/// that leads nowhere, name no file. Any other error leaves it open what stands there, so the listing fails.
+/// Whether a regular file stands there, or where a symlink leads: no directory, and no pipe, at which a reading might wait
+/// without end. What has vanished, and a symlink that leads nowhere, name no file. Any other error leaves it open what
+/// stands there, so the listing fails.
 fn is_file(files: &impl Files, path: Path<'_>) -> io::Result<bool> {
     match fs::metadata(files, path) {
         Ok(metadata) => Ok(metadata.is_file()),

@@ -1,11 +1,11 @@
-ghost use Rattle.std.specs.Prelude.{◌≡◌, ◌≤◌, ◌↔◌, ◌||◌, List, [], length, map, vec_len, string_bytes, IsTrue, IfOk, IfErr, IfSome};
+ghost use Rattle.std.specs.Prelude.{◌≡◌, ◌≤◌, ◌↔◌, List, [], length, map, vec_len, string_bytes, IsTrue, IfOk, IfErr, IfSome};
 ghost use Rattle.std.specs.Option.{option_copied};
 ghost use Rattle.std.specs.List.{find};
 ghost use Rattle.std.specs.Str.{IsUtf8, bytes_eq};
-ghost use Rattle.outside.specs.Calls.{next_count, is_due};
+ghost use Rattle.outside.specs.Calls.{next_count};
 ghost use Rattle.outside.specs.Faults.{HasRisen, CountsFolder};
 ghost use Rattle.outside.specs.Files.{Holds, IsListing, IsThere, IsReading, front_of};
-ghost use Rattle.outside.specs.Memory.{AreFiles, AreDirs, rows_in, row_in, files_in, told_in, is_missing, AnswersCall};
+ghost use Rattle.outside.specs.Memory.{AreFiles, AreDirs, rows_in, row_in, files_in, told_in, call_fails, list_fails, AnswersCall};
 
 use crate::folder::{Folder, FolderFault, READ_LIMIT};
 use crate::memory_folder::names::are_dirs;
@@ -29,7 +29,12 @@ impl Model for MemoryFolder {
 
     ghost Value = { FolderState };
 
-    ghost view = { λ folder. record { dirs = folder.dirs; failing = folder.failing; calls = folder.calls; faults = folder.faults } };
+    ghost view = { λ folder. record {
+      dirs = folder.dirs;
+      failing = folder.failing;
+      calls = folder.calls;
+      faults = folder.faults;
+    } };
 
     ghost invariant = { λ folder. AreDirs folder.dirs };
 }
@@ -61,7 +66,7 @@ impl MemoryFolder {
     fn count_call(&mut self) -> Result<(), FolderFault>
         ensures fault { IfErr result (λ fault. fault ≡ FolderFault.Failed) }
         ensures count { CountsFolder result self.old.faults self.new.faults }
-        ensures call { AnswersCall result (is_due self.old.failing self.old.calls) self.old self.new }
+        ensures call { AnswersCall result (call_fails self.old) self.old self.new }
     {
         self.calls = self.calls.saturating_add(1);
         if self.failing.as_slice().contains(&self.calls) {
@@ -98,7 +103,7 @@ impl Folder for MemoryFolder {
         ensures names { IfOk result (λ names. IsListing (told_in self.old dir.now) (map string_bytes names.items)) }
         ensures count { CountsFolder result self.old.faults self.new.faults }
         ensures same { told_in self.new ≡ told_in self.old }
-        ensures call { AnswersCall result (is_due self.old.failing self.old.calls || is_missing self.old dir.now) self.old self.new }
+        ensures call { AnswersCall result (list_fails self.old dir.now) self.old self.new }
     {
         self.count_call()?;
         let Some(files) = self.files_of(dir) else {
@@ -113,7 +118,7 @@ impl Folder for MemoryFolder {
         ensures limit { IfOk result (λ bytes. vec_len bytes ≤ READ_LIMIT) }
         ensures count { CountsFolder result self.old.faults self.new.faults }
         ensures same { told_in self.new ≡ told_in self.old }
-        ensures call { AnswersCall result (is_due self.old.failing self.old.calls) self.old self.new }
+        ensures call { AnswersCall result (call_fails self.old) self.old self.new }
     {
         self.count_call()?;
         let files = self.files_of(dir).unwrap();

@@ -1,8 +1,7 @@
 ghost use Rattle.std.specs.Prelude.{◌≡◌, ◌<◌, ◌≤◌, [], Some, None, length, take, IfOk, IfErr, OnErr};
 ghost use Rattle.outside.specs.Bytes.{Appends};
-ghost use Rattle.outside.specs.Calls.{is_due};
 ghost use Rattle.outside.specs.Faults.{CountsSink};
-ghost use Rattle.outside.specs.Written.{AnswersWrite};
+ghost use Rattle.outside.specs.Written.{call_fails, AnswersWrite};
 
 use crate::rows::CallList;
 use crate::sink::{Sink, SinkFault};
@@ -25,7 +24,13 @@ impl Model for MemorySink {
 
     ghost Value = { SinkState };
 
-    ghost view = { λ sink. record { written = sink.written.items; most = sink.most; failing = sink.failing; calls = sink.calls; faults = sink.faults } };
+    ghost view = { λ sink. record {
+      written = sink.written.items;
+      most = sink.most;
+      failing = sink.failing;
+      calls = sink.calls;
+      faults = sink.faults;
+    } };
 
     ghost invariant = { λ sink. 1 ≤ sink.most };
 }
@@ -66,7 +71,7 @@ impl Sink for MemorySink {
         ensures ok { IfOk result (λ n. Appends (Some self.old.written) (Some self.new.written) (take n bytes.now)) }
         ensures err { OnErr result (self.new.written ≡ self.old.written) }
         ensures count { CountsSink result self.old.faults self.new.faults }
-        ensures call { AnswersWrite result (is_due self.old.failing self.old.calls) bytes.now self.old self.new }
+        ensures call { AnswersWrite result (call_fails self.old) bytes.now self.old self.new }
     {
         self.calls = self.calls.saturating_add(1);
         if self.failing.as_slice().contains(&self.calls) {

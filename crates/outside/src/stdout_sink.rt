@@ -33,7 +33,8 @@ impl<R> StdoutSink<R> {
     fn count_failure(&mut self, answer: io::Result<usize>) -> Result<usize, SinkFault>
         ensures ok { IfOk answer (λ n. result ≡ Ok n) }
         ensures err { OnErr answer (IsErr result) }
-        ensures memory { IfErr answer (λ error. (result ≡ Err SinkFault.Memory) ↔ (error_kind error ≡ ErrorKind.OutOfMemory)) }
+        ensures memory { IfErr answer (λ error.
+            (result ≡ Err SinkFault.Memory) ↔ (error_kind error ≡ ErrorKind.OutOfMemory)) }
         ensures count { CountsSink result self.old self.new }
     {
         match answer {

@@ -2,3 +2,4 @@ pub mod Cuts
 pub mod Identifiers
 pub mod Spelling
 pub mod FirstMarkers
+pub mod Tables

@@ -1,4 +1,6 @@
-ghost use Rattle.std.specs.Prelude.{◌≡◌, IfOk, chars};
+ghost use Rattle.std.specs.Prelude.{◌≡◌, IfOk, chars, map};
+ghost use Rattle.std.specs.List.{list_any};
+ghost use Rattle.std.specs.Str.{bytes_eq};
 ghost use Rattle.py_lexer.specs.Names.{is_identifier, is_keyword, is_spelled_as_identifier, may_start_identifier};
 
 use std::alloc::{AllocError, Global};
@@ -48,7 +50,14 @@ const KEYWORDS: [&[u8]; 35] = [
 pub fn is_keyword(name: &[u8]) -> bool
     ensures { result ≡ is_keyword name.now }
 {
-    KEYWORDS.iter().any(|keyword| name == *keyword)
+    is_among(name, &KEYWORDS)
+}
+
+/// Whether a name is one of some names.
+pub fn is_among(name: &[u8], names: &[&[u8]]) -> bool
+    ensures { result ≡ list_any (bytes_eq name.now) (map (λ other. other.now) names.now) }
+{
+    names.contains(&name)
 }
 
 /// Whether a name is an identifier (Python reference: lexical analysis, identifiers). A keyword is one by its spelling.

@@ -1,28 +1,17 @@
--- Names in a table.
+-- The name that a line binds.
 use Rattle.std.specs.Prelude.{if◌then◌else◌, codes, nat_eq, position}
-use Rattle.std.proofs.Common.{◌≡◌, ℕ, ◌==◌, ◌<◌, ◌≤◌, Bool, true, false, ◌&&◌, List, [], ◌∷◌, map, length, take, drop, Option, Some, None, refl, sym, ap, ◌∙◌, arith, Bor, eqb}
+use Rattle.std.proofs.Common.{◌≡◌, ℕ, ◌==◌, ◌<◌, ◌≤◌, Bool, true, false, ◌&&◌, List, [], length, take, drop, Option, Some, None, refl, sym, ap, ◌∙◌, arith}
 use Rattle.std.proofs.lemmas.Bool.Decides.{nat_tests}
 use Rattle.std.proofs.lemmas.List.{take_all, drop_all, length-take-le}
-use Rattle.std.specs.List.{list_any, position_or_len, before_first, starts_with}
+use Rattle.std.specs.List.{position_or_len, before_first, starts_with}
 use Rattle.std.specs.Option.{MatchOption}
+use Rattle.std.specs.Cmp.Lexicographic.{nat_list_eq_equiv}
 use Rattle.std.specs.Str.{bytes_eq}
 use Rattle.strict_top.specs.Assignments.{bound_by, is_name, is_literal}
 
--- two numbers are compared in either order
-eqb-swap : (m n : ℕ) → eqb m n ≡ eqb n m
-eqb-swap m n = grind (arith, nat_tests)
-
--- so are two texts
+-- two texts are compared in either order
 pub bytes_eq-swap : (a b : List ℕ) → bytes_eq a b ≡ bytes_eq b a
-bytes_eq-swap [] [] = refl
-bytes_eq-swap [] (y ∷ ys) = refl
-bytes_eq-swap (x ∷ xs) [] = refl
-bytes_eq-swap (x ∷ xs) (y ∷ ys) = cc (eqb-swap x y, bytes_eq-swap xs ys)
-
--- whether a name stands in a table, by the texts that it points to
-pub list_any-pointed : (name : List ℕ) (table : List (Bor (List ℕ))) → list_any (λ entry. bytes_eq entry.now name) table ≡ list_any (bytes_eq name) (map (λ entry. entry.now) table)
-list_any-pointed name [] = refl
-list_any-pointed name (entry ∷ table) = cc (bytes_eq-swap entry.now name, list_any-pointed name table)
+bytes_eq-swap = nat_list_eq_equiv.symm
 
 -- what a line binds, over any tests of a name and a literal
 abbrev pub bound_with : (List ℕ → Bool) → (List ℕ → Bool) → List ℕ → List ℕ → Option (List ℕ)
@@ -58,10 +47,12 @@ bound_with-some names literals line place some =
 
 -- a line with no space binds nothing
 pub bound_by-none : (line : List ℕ) → None ≡ position is_space line → bound_by line ≡ None
+unfolding bound_by
 bound_by-none line none = bound_with-none is_name is_literal line (sym none)
 
 -- a line is cut at its first space
 pub bound_by-cut : (line front rest : List ℕ) (place : ℕ) → Some place ≡ position is_space line → front ≡ take place line → rest ≡ drop place line → bound_by line ≡ bound_with is_name is_literal front rest
+unfolding bound_by
 bound_by-cut line front rest place some is_front is_rest = bound_with-some is_name is_literal line place (sym some) ∙ cc (ap (bound_with is_name is_literal (take place line)) (sym is_rest), ap (λ name. bound_with is_name is_literal name rest) (sym is_front))
 
 -- where no ` = ` follows, nothing is bound

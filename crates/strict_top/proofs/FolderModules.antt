@@ -1,24 +1,27 @@
 -- What was listed and read of a directory is its modules.
-use Rattle.std.proofs.Common.{◌≡◌, ◌≢◌, ◌||◌, ℕ, Bool, true, false, IsTrue, is_some, Option, Some, None, List, [], ◌∷◌, ◌++◌, map, codes, refl, sym, ap, ◌∙◌, subst, string_bytes, String, Global}
+use Rattle.std.proofs.Common.{◌≡◌, ◌≢◌, ◌↔◌, ◌||◌, ℕ, Bool, true, false, IsTrue, is_some, Option, Some, None, List, [], ◌∷◌, ◌++◌, map, refl, sym, ap, ◌∙◌, subst, string_bytes, String, Global}
 use Rattle.std.specs.Bool.{if◌then◌else◌}
 use Rattle.std.specs.Prelude.{T}
 use Rattle.std.specs.declared.cmp.Ordering.{Ordering}
 use Rattle.std.specs.declared.cmp.Ordering.TheVariants.{Less, Equal, Greater}
 use Rattle.std.specs.Option.{option_map}
-use Rattle.std.specs.FinMap.{find, get, keys, is_sorted, entries, from_entries, contains_key, entries_sorted, get-entries, get-from_entries, contains_key-keys}
+use Rattle.std.specs.FinMap.{find, get, keys, is_sorted, entries, from_entries, entries_sorted, get-entries, get-from_entries, contains_key-keys}
 use Rattle.std.specs.FinMap.Entries.{is_some-find, below_all}
 use Rattle.std.specs.Cmp.Lexicographic.{nat_list_cmp_total}
-use Rattle.std.specs.List.{list_any, filter_map, cons_option, AllByRecursion}
-use Rattle.std.specs.List.Sorted.{IsPermutation}
+use Rattle.std.specs.List.{list_any, filter_map, cons_option, Contains, AllByRecursion}
+use Rattle.std.specs.List.Sorted.{IsPermutation, IsStrictlySortedBy}
 use Rattle.std.specs.Ordering.{is_eq, is_lt, eq_by_cmp}
 use Rattle.std.specs.Str.{bytes_eq}
 use Rattle.std.proofs.lemmas.Map.Text.{is_eq-slice_cmp}
 use Rattle.std.proofs.lemmas.Bool.{false_from_ne_true}
+use Rattle.std.proofs.lemmas.List.Elements.{All-contains, All-from_recursion}
+use Rattle.std.proofs.lemmas.Map.Views.{Contains-from_lookup}
 use Rattle.std.proofs.lemmas.List.Sorted.{list_any-IsPermutation}
 use Rattle.std.proofs.lemmas.Slice.Eq.{bytes_eq-Decides}
 use Rattle.std.proofs.lemmas.Option.{same_Some}
-use Rattle.outside.specs.Files.{Files, Told, Untold, Missing, Holds, IsListing, IsThere, IsReading, front_of}
-use Rattle.strict_top.specs.Modules.{Source, modules, module_in, source_in, AreModules, AreRead, IsSourceIn}
+use Rattle.outside.specs.Files.{Files, Told, Untold, Missing, Holds, IsListing, IsThere, front_of}
+use Rattle.strict_top.specs.Modules.{Source, modules, module_in, source_in, source_cmp, LiesIn, AreModules}
+use Rattle.strict_top.specs.Steps.{AreRead, IsSourceIn}
 use Rattle.strict_top.proofs.ModuleLemmas.{module_file, ending}
 use Rattle.strict_top.proofs.SortedNames.{name_cmp, keyed, same_names, sorted_entries, left_holds, right_holds}
 
@@ -193,3 +196,69 @@ any_key (key ∷ keys) q = λ i. is_eq-slice_cmp q (string_bytes key) i || any_k
 pub each_key : (P : List ℕ → Type 0) (keys : List (String Global)) → AllByRecursion P (map string_bytes keys) → AllByRecursion (λ (key : String Global). P (string_bytes key)) keys
 each_key P [] each = tt
 each_key P (key ∷ keys) each = (each.0, each_key P keys each.1)
+
+-- ---- the law of the modules of a directory
+
+-- each of them lies in it
+lies_in_each : (files : Files) → AllByRecursion (LiesIn files) (modules files)
+unfolding IsHeld
+lies_in_each files =
+    let held = sources_in (entries files) in
+    let all = from_entries {R = name_cmp} held in
+    found_each (LiesIn files) (entries all) (entries_sorted all) (λ q b found.
+    let h = source_found (entries files) q b (sym (get-from_entries nat_list_cmp_total held q) ∙ get-entries all q ∙ found) in
+    record { is_module = h.0; is_front = ap (option_map front_of) (get-entries files (q ++ ending)) ∙ h.1 })
+
+-- one file more in front, which is another's or no module's, hides nothing
+found_behind : (file : List ℕ × List ℕ) (name : List ℕ) (front : Option (List ℕ)) (files : List (List ℕ × List ℕ)) (here : Option (List ℕ)) → module_in file.0 ≡ here → name ++ ending ≢ file.0
+    → find name_cmp name (sources_in files) ≡ front → find name_cmp name (cons_option (option_map (λ n. (n, front_of file.1)) here) (sources_in files)) ≡ front
+found_behind file name front files None is other found = found
+found_behind file name front files (Some n) is other found =
+    ap (λ b. if b then Some (front_of file.1) else find name_cmp name (sources_in files)) (apart name n (λ same. other (ap (λ m. m ++ ending) same ∙ sym (module_file file.0 n is)))) ∙ found
+
+-- what a module's file has at its front is found under its name
+front_found : (files : List (List ℕ × List ℕ)) (name bytes : List ℕ) → module_in (name ++ ending) ≡ Some name → find name_cmp (name ++ ending) files ≡ Some bytes → find name_cmp name (sources_in files) ≡ Some (front_of bytes)
+front_found [] name bytes is found = absurd cc
+front_found (file ∷ files) name bytes is found = by (eq_by_cmp name_cmp (name ++ ending) file.0) refl found (front_found files name bytes is)
+  where
+    by : (b : Bool) → eq_by_cmp name_cmp (name ++ ending) file.0 ≡ b → (if b then Some file.1 else find name_cmp (name ++ ending) files) ≡ Some bytes
+        → (find name_cmp (name ++ ending) files ≡ Some bytes → find name_cmp name (sources_in files) ≡ Some (front_of bytes)) → find name_cmp name (sources_in (file ∷ files)) ≡ Some (front_of bytes)
+    by true same found rest =
+        let here : module_in file.0 ≡ Some name = ap module_in (sym (untied (name ++ ending) file.0 same)) ∙ is in
+        ap (λ h. find name_cmp name (cons_option (option_map (λ n. (n, front_of file.1)) h) (sources_in files))) here
+        ∙ ap (λ b. if b then Some (front_of file.1) else find name_cmp name (sources_in files)) (tied name name refl) ∙ ap (option_map front_of) found
+    by false differ found rest =
+        found_behind file name (Some (front_of bytes)) files (module_in file.0) refl (λ same. let t = tied (name ++ ending) file.0 same in absurd cc) (rest found)
+
+-- and what lies in it is one of them
+one_of_modules : (files : Files) (source : Source) (found : Option (List ℕ)) → get files (source.0 ++ ending) ≡ found → module_in (source.0 ++ ending) ≡ Some source.0 → option_map front_of found ≡ Some source.1 → Contains (modules files) source
+one_of_modules files source None is module_is front = absurd cc
+one_of_modules files source (Some bytes) is module_is front =
+    let held = sources_in (entries files) in
+    let all = from_entries {R = name_cmp} held in
+    let found = front_found (entries files) source.0 bytes module_is (sym (get-entries files (source.0 ++ ending)) ∙ is) in
+    Contains-from_lookup untied source.0 source.1 (entries all) (sym (get-entries all source.0) ∙ get-from_entries nat_list_cmp_total held source.0 ∙ found ∙ front)
+
+pub modules_lie_in : (files : Files) (source : Source) → Contains (modules files) source ↔ LiesIn files source
+modules_lie_in files source = (
+  λ one. All-contains (LiesIn files) (modules files) source (All-from_recursion (LiesIn files) (modules files) (lies_in_each files)) one,
+  λ lies. one_of_modules files source (get files (source.0 ++ ending)) refl lies.is_module lies.is_front,
+)
+
+-- their names are in order
+less : (o : Ordering) → T (is_lt o) → o ≡ Less
+less Less h = refl
+less Equal h = absurd h
+less Greater h = absurd h
+
+below_each : (name : List ℕ) (es : List Source) → T (below_all name_cmp name es) → AllByRecursion (λ (e : Source). name_cmp name e.0 ≡ Less) es
+below_each name [] below = tt
+below_each name (e ∷ es) below = (less _ (left_holds _ _ below), below_each name es (right_holds _ _ below))
+
+rising : (es : List Source) → T (is_sorted name_cmp es) → IsStrictlySortedBy source_cmp es
+unfolding IsStrictlySortedBy
+rising [] sorted = tt
+rising (e ∷ es) sorted = (below_each e.0 es (left_holds _ _ sorted), rising es (right_holds _ _ sorted))
+
+pub modules_rise : (files : Files) → IsStrictlySortedBy source_cmp (modules files)
+modules_rise files = rising (modules files) (entries_sorted (from_entries {R = name_cmp} (sources_in (entries files))))

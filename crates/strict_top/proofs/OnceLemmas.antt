@@ -1,6 +1,6 @@
 -- The names that a set holds after some are inserted in turn.
 use Rattle.std.specs.Prelude.{if◌then◌else◌}
-use Rattle.std.proofs.Common.{◌≡◌, ℕ, Bool, true, false, not, ◌&&◌, ◌||◌, List, [], ◌∷◌, ◌++◌, map, filter, Bor, Option, Some, None, refl, sym, ap, ◌∙◌, subst, append_assoc}
+use Rattle.std.proofs.Common.{◌≡◌, ℕ, Bool, true, false, not, ◌&&◌, ◌||◌, List, [], ◌∷◌, ◌++◌, map, filter, Bor, Option, Some, refl, sym, ap, ◌∙◌, subst, append_assoc}
 use Rattle.std.proofs.lemmas.List.{append-nil, map-append}
 use Rattle.std.proofs.lemmas.List.Folds.{list_any-append}
 use Rattle.std.proofs.lemmas.Slice.Eq.{bytes_eq-Decides}
@@ -85,10 +85,6 @@ pointed-insert_key keys key = by (list_any (bytes_eq key.now) (pointed keys)) re
     by : (b : Bool) → list_any (bytes_eq key.now) (pointed keys) ≡ b → pointed (insert_key (λ x y. bytes_eq x.now y.now) keys key) ≡ with_name (pointed keys) key.now
     by true e = rw (list_any-pointed_key key.now keys, e) refl
     by false e = rw (list_any-pointed_key key.now keys, e) (map-append (λ x. x.now) keys (key ∷ []))
-
--- a line that binds nothing adds no name
-pub with_names-past : (bound : List ℕ → Option (List ℕ)) (names ls : List (List ℕ)) (line : List ℕ) (rest : List (List ℕ)) → ls ≡ line ∷ rest → bound line ≡ None → with_names names (filter_map bound ls) ≡ with_names names (filter_map bound rest)
-with_names-past bound names ls line rest is nothing = rw (is, nothing) refl
 
 -- a line adds the name that it binds
 pub with_names-here : (bound : List ℕ → Option (List ℕ)) (names ls : List (List ℕ)) (line name : List ℕ) (rest : List (List ℕ)) → ls ≡ line ∷ rest → bound line ≡ Some name → with_names names (filter_map bound ls) ≡ with_names (with_name names name) (filter_map bound rest)

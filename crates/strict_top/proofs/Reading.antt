@@ -1,20 +1,17 @@
 -- What has been read and decided so far.
-use Rattle.std.proofs.Common.{◌≡◌, ℕ, List, [], ◌∷◌, ◌++◌, map, codes, refl, sym, ap, ◌∙◌, subst, string_bytes, Bor, String, Global}
+use Rattle.std.proofs.Common.{◌≡◌, ℕ, List, [], ◌∷◌, ◌++◌, map, codes, sym, ap, ◌∙◌, string_bytes, Bor, String, Global}
 use Rattle.std.specs.List.{AllByRecursion}
 use Rattle.std.proofs.lemmas.List.{map-append}
 use Rattle.outside.specs.Files.{Told, IsReading}
-use Rattle.strict_top.specs.Modules.{Source, AreRead, IsSourceIn}
+use Rattle.strict_top.specs.Modules.{Source}
 use Rattle.strict_top.specs.Reports.{Judged, judged}
-use Rattle.strict_top.specs.Verdicts.{verdict_of}
+use Rattle.strict_top.specs.Steps.{AreRead, IsSourceIn}
 
 -- Modules of these names were read, and decided as listed.
 pub record IsRead (told : Told) (names : List (List ℕ)) (decided : List Judged) : Type 0 where
   pub sources : List Source
   pub read : AreRead told names sources
   pub verdicts : decided ≡ map judged sources
-
-pub none_read : (told : Told) → IsRead told [] []
-none_read told = record { sources = []; read = record { named = refl; each = tt }; verdicts = refl }
 
 each_more : (told : Told) (sources : List Source) (source : Source) → AllByRecursion (IsSourceIn told) sources → IsSourceIn told source → AllByRecursion (IsSourceIn told) (sources ++ source ∷ [])
 each_more told [] source each one = (one, tt)

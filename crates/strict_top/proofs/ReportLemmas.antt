@@ -1,9 +1,9 @@
 -- The lines of a report, one after the other.
-use Rattle.std.proofs.Common.{◌≡◌, ◌<◌, ℕ, ◌+◌, suc, List, [], ◌∷◌, ◌++◌, ◌||◌, refl, length, get_or, drop, map, string_bytes, sym, ap, ◌∙◌, add-one, drop-cons}
+use Rattle.std.proofs.Common.{◌≡◌, ◌<◌, ℕ, ◌+◌, suc, List, [], ◌∷◌, ◌++◌, ◌||◌, refl, length, get_or, drop, map, sym, ap, ◌∙◌, add-one, drop-cons}
 use Rattle.std.specs.List.{flat_map, list_any}
-use Rattle.strict_top.specs.Decided.{view_of}
 use Rattle.strict_top.specs.declared.report.Decided.{Decided}
 use Rattle.strict_top.specs.Reports.{line_of, is_refused_module}
+use Rattle.strict_top.specs.Steps.{view_of}
 
 -- the lines from one module on are its line and those from the next on
 pub lines_from : (all : List Decided) (i : ℕ) (entry : Decided) (line : List ℕ) → i < length all → entry ≡ get_or all i entry → line ≡ line_of (view_of entry) →

@@ -1,16 +1,15 @@
 -- What the answers of a run tell, from what was done with its report.
-use Rattle.std.proofs.Common.{◌≡◌, ◌≢◌, ℕ, IfSome, Option, Some, None, List, [], map, refl, sym, ap, ◌∙◌, subst, take, true, false}
+use Rattle.std.proofs.Common.{◌≡◌, ◌≢◌, ℕ, IfSome, Option, Some, None, List, map, refl, ap, ◌∙◌, subst, take}
 use Rattle.outside.specs.Bytes.{Appends}
 use Rattle.outside.specs.Faults.{HasRisen}
 use Rattle.outside.specs.Files.{Told, Untold, Missing, Holds}
 use Rattle.strict_top.specs.declared.status.Status.{Status}
 use Rattle.strict_top.specs.declared.status.Status.TheVariants.{Done, Raised, Refused, BadWords, FolderFault, SinkFault, OutOfMemory, TooLarge}
-use Rattle.strict_top.specs.Modules.{Source, AreModules, modules}
-use Rattle.strict_top.specs.Reports.{Report, report_of, report_on, bad_words, Judged, judged, is_refused_module}
+use Rattle.strict_top.specs.Modules.{Source, AreModules}
+use Rattle.strict_top.specs.Reports.{Report, report_of, report_on, bad_words, Judged, judged}
 use Rattle.strict_top.specs.Words.{directory_of}
-use Rattle.strict_top.specs.Runs.{IsReportNamed, IsReport, HasEnded, Writes, WritesFront, WritesReport, report_named, report_in}
-use Rattle.std.specs.Bool.{if◌then◌else◌}
-use Rattle.std.specs.List.{list_any}
+use Rattle.strict_top.specs.Runs.{IsReportNamed, IsReport, HasEnded, WritesFront, WritesReport, report_named, report_in}
+use Rattle.strict_top.specs.Steps.{Writes}
 
 -- the report of words that aren't taken
 pub report_of_bad_words : (words : List (List ℕ)) (told : List ℕ → Told) → None ≡ directory_of words → IsReport words told bad_words
@@ -65,12 +64,3 @@ pub writes_memory : (words : List (List ℕ)) (told : List ℕ → Told) (report
     answer ≡ OutOfMemory → (now ≡ before) × WritesFront words told old new
 writes_memory words told report old new before now answer is writes answered =
     let w = subst (Writes report old new before now) answered writes in (w.1, front_of_report words told report old new is w.0)
-
-pub writes_no_folder_fault : (report : Report) (old new : Option (List ℕ)) (before now : ℕ) (answer : Status) → Writes report old new before now answer → answer ≢ FolderFault
-writes_no_folder_fault report old new before now answer writes answered = subst (Writes report old new before now) answered writes
-
--- all of a report on modules is written
-pub writes_decided : (entries : List Judged) (old new : Option (List ℕ)) (before now : ℕ) → Appends old new (report_of entries).bytes → now ≡ before → Writes (report_of entries) old new before now (report_of entries).status
-writes_decided entries old new before now written calm =
-    elim (list_any is_refused_module entries) as (λ b. (report_of entries).status ≡ (if b then Refused else Done) → Writes (report_of entries) old new before now (if b then Refused else Done))
-    [ true ↦ λ is. (written, sym is, calm) | false ↦ λ is. (written, sym is, calm) ] refl

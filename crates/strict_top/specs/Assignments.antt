@@ -22,7 +22,8 @@ builtins =
 -- ASCII letters, digits and `_`, not a digit first.
 abbrev pub is_ascii_identifier : List ℕ → Bool
 is_ascii_identifier [] = false
-is_ascii_identifier (first ∷ rest) = (is_ascii_alphabetic first || (first == 95)) && list_all (λ byte. is_ascii_alphanumeric byte || (byte == 95)) rest
+is_ascii_identifier (first ∷ rest) =
+    (is_ascii_alphabetic first || (first == 95)) && list_all (λ byte. is_ascii_alphanumeric byte || (byte == 95)) rest
 
 -- Both begins and ends with two underscores.
 abbrev pub is_special : List ℕ → Bool
@@ -35,10 +36,13 @@ is_name name = is_ascii_identifier name && not (is_keyword name) && not (list_an
 -- An integer in decimal digits, of which the first is 0 only where all are, no greater than the greatest `int`.
 abbrev pub is_literal : List ℕ → Bool
 is_literal [] = false
-is_literal (first ∷ rest) = list_all is_ascii_digit (first ∷ rest) && (not (first == 48) || list_all (λ digit. digit == 48) rest) && nat_le (digits_value 10 (first ∷ rest)) greatest_int
+is_literal (first ∷ rest) =
+    list_all is_ascii_digit (first ∷ rest)
+    && (not (first == 48) || list_all (λ digit. digit == 48) rest)
+    && nat_le (digits_value 10 (first ∷ rest)) greatest_int
 
 -- The name that a line `NAME = INT` binds, or none where the line is no such line.
-abbrev pub bound_by : List ℕ → Option (List ℕ)
+unfoldable pub bound_by : List ℕ → Option (List ℕ)
 bound_by line =
     let name = before_first (λ byte. byte == 32) line in
     let rest = drop (length name) line in

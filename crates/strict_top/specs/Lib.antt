@@ -4,5 +4,5 @@ pub mod Verdicts
 pub mod Modules
 pub mod Reports
 pub mod Runs
-pub mod Decided
+pub mod Steps
 pub mod Statuses

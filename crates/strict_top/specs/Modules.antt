@@ -1,12 +1,13 @@
 -- The modules of a folder.
-use Rattle.std.specs.Prelude.{◌≡◌, ℕ, ◌-◌, ◌&&◌, nat_eq, Bool, not, if◌then◌else◌, List, [], ◌∷◌, ◌++◌, length, take, codes, chars, Option, Some, None, map}
-use Rattle.std.specs.List.{ends_with, list_any, filter_map, AllByRecursion}
+use Rattle.std.specs.Prelude.{◌≡◌, ℕ, ◌-◌, ◌&&◌, nat_eq, Bool, not, if◌then◌else◌, List, [], ◌∷◌, ◌++◌, length, take, codes, chars, Option, Some, None}
+use Rattle.std.specs.List.{ends_with, list_any, filter_map}
 use Rattle.std.specs.Option.{option_map}
 use Rattle.std.specs.Ordering.{nat_cmp}
+use Rattle.std.specs.declared.cmp.Ordering.{Ordering}
 use Rattle.std.specs.Cmp.Lexicographic.{slice_cmp}
 use Rattle.std.specs.Str.{bytes_eq}
-use Rattle.std.specs.FinMap.{entries, from_entries}
-use Rattle.outside.specs.Files.{Files, Told, Untold, Missing, Holds, IsReading, front_of}
+use Rattle.std.specs.FinMap.{entries, from_entries, get}
+use Rattle.outside.specs.Files.{Files, Told, Untold, Missing, Holds, front_of}
 use Rattle.py_lexer.specs.Names.{is_identifier, is_keyword}
 
 -- A module as it is read: its name, and the front of its bytes.
@@ -34,14 +35,14 @@ source_in file = option_map (λ name. (name, front_of file.1)) (module_in file.0
 abbrev pub modules : Files → List Source
 modules files = entries (from_entries {R = slice_cmp nat_cmp} (filter_map source_in (entries files)))
 
--- What a reading of the module's file gives.
-abbrev pub IsSourceIn : Told → Source → Type 0
-IsSourceIn told source = IsReading told (source.0 ++ codes ".py") source.1
+-- The module lies in the directory: its name makes that of a file, which has these bytes at its front.
+pub record LiesIn (files : Files) (source : Source) : Type 0 where
+  pub is_module : module_in (source.0 ++ codes ".py") ≡ Some source.0
+  pub is_front : option_map front_of (get files (source.0 ++ codes ".py")) ≡ Some source.1
 
--- The modules of these names were read, in this order.
-pub record AreRead (told : Told) (names : List (List ℕ)) (sources : List Source) : Type 0 where
-  pub named : map (λ (source : Source). source.0) sources ≡ names
-  pub each : AllByRecursion (IsSourceIn told) sources
+-- The order of the modules.
+abbrev pub source_cmp : Source → Source → Ordering
+source_cmp a b = slice_cmp nat_cmp a.0 b.0
 
 -- The modules that were read are those of the directory, where it is told.
 abbrev pub AreModules : Told → List Source → Type 0

@@ -1,16 +1,14 @@
 -- The report on modules: a line for each, and a status.
-use Rattle.std.specs.Prelude.{◌≡◌, ℕ, ◌<◌, Bool, true, false, if◌then◌else◌, List, [], ◌∷◌, ◌++◌, codes, Option, Some, None, map}
+use Rattle.std.specs.Prelude.{ℕ, Bool, true, false, if◌then◌else◌, List, ◌++◌, codes, map}
 use Rattle.std.specs.Fmt.{decimal}
 use Rattle.std.specs.List.{list_any, flat_map}
 use Rattle.py_tree.specs.Codes.{printed}
-use Rattle.outside.specs.Files.{Told}
 use Rattle.strict_top.specs.declared.status.Status.{Status}
 use Rattle.strict_top.specs.declared.status.Status.TheVariants.{Done, Refused, BadWords}
 use Rattle.strict_top.specs.declared.verdict.Verdict.{Verdict}
 use Rattle.strict_top.specs.declared.verdict.Verdict.TheVariants as verdict
-use Rattle.strict_top.specs.Modules.{Source, AreModules}
+use Rattle.strict_top.specs.Modules.{Source}
 use Rattle.strict_top.specs.Verdicts.{verdict_of}
-use Rattle.strict_top.specs.Words.{directory_of}
 
 pub record Report : Type 0 where
   pub bytes : List ℕ

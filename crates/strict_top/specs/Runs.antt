@@ -1,10 +1,9 @@
 -- What a run on a folder reports, and what each of its answers tells.
 use Rattle.std.specs.Prelude.{◌≡◌, ℕ, List, Option, Some, None, take}
 use Rattle.outside.specs.Bytes.{Appends}
-use Rattle.outside.specs.Faults.{HasRisen}
 use Rattle.outside.specs.Files.{Told, Untold, Missing, Holds}
 use Rattle.strict_top.specs.declared.status.Status.{Status}
-use Rattle.strict_top.specs.declared.status.Status.TheVariants.{Done, Raised, Refused, BadWords, FolderFault, SinkFault, OutOfMemory, TooLarge}
+use Rattle.strict_top.specs.declared.status.Status.TheVariants.{FolderFault, SinkFault, OutOfMemory}
 use Rattle.strict_top.specs.Modules.{Source, AreModules, modules}
 use Rattle.strict_top.specs.Reports.{Report, report_on, bad_words}
 use Rattle.strict_top.specs.Words.{directory_of}
@@ -52,10 +51,3 @@ pub record WritesReport (words : List (List ℕ)) (told : List ℕ → Told) (ol
   pub is_report : IsReport words told report
   pub written : Appends old new report.bytes
   pub answered : status ≡ report.status
-
--- What is done with a report, by the answer: it is written whole and its status answered, or its first bytes are, and the count of faults tells why.
-abbrev pub Writes : Report → Option (List ℕ) → Option (List ℕ) → ℕ → ℕ → Status → Type 0
-Writes report old new before now FolderFault = ⊥
-Writes report old new before now SinkFault = ((n : ℕ) × Appends old new (take n report.bytes)) × HasRisen before now
-Writes report old new before now OutOfMemory = ((n : ℕ) × Appends old new (take n report.bytes)) × (now ≡ before)
-Writes report old new before now status = Appends old new report.bytes × (status ≡ report.status) × (now ≡ before)

@@ -29,7 +29,9 @@ is_built number line = if number == 1 then is_bare_marker line else is_some (bou
 
 -- The number of the first line that isn't built.
 abbrev pub first_unbuilt : List ℕ → Option ℕ
-first_unbuilt text = option_map (λ numbered. numbered.0) (find (λ numbered. not (is_built numbered.0 numbered.1)) (enumerate_from 1 (lines text)))
+first_unbuilt text =
+    option_map (λ numbered. numbered.0)
+    (find (λ numbered. not (is_built numbered.0 numbered.1)) (enumerate_from 1 (lines text)))
 
 -- The names that the lines below the first bind, in the order in which they stand first.
 abbrev pub globals_of : List ℕ → List (List ℕ)

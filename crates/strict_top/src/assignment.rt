@@ -6,7 +6,7 @@ ghost use Rattle.std.specs.Str.{bytes_eq};
 ghost use Rattle.std.specs.Str.Parse.{digits_value};
 ghost use Rattle.strict_top.specs.Assignments.{builtins, is_ascii_identifier, is_special, is_name, is_literal, greatest_int, bound_by};
 
-use py_lexer::names::is_keyword;
+use py_lexer::names::{is_among, is_keyword};
 use std::str;
 
 /// The name that a line `NAME = INT` binds, or none where the line is no such line.
@@ -76,12 +76,6 @@ fn is_builtin(name: &[u8]) -> bool
     ensures { result ≡ list_any (bytes_eq name.now) builtins }
 {
     is_among(name, &BUILTINS)
-}
-
-fn is_among(name: &[u8], names: &[&[u8]]) -> bool
-    ensures { result ≡ list_any (bytes_eq name.now) (map (λ other. other.now) names.now) }
-{
-    names.contains(&name)
 }
 
 /// Whether a name is made of ASCII letters, digits and `_`, and doesn't begin with a digit.

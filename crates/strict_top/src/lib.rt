@@ -2,7 +2,7 @@
 #![tactic(auto)]
 
 mod assignment;
-mod modules;
+pub mod modules;
 mod report;
 pub mod run;
 pub mod status;

@@ -1,19 +1,20 @@
-ghost use Rattle.std.specs.Prelude.{◌≡◌, ◌≢◌, [], ◌∷◌, ◌++◌, ℕ, List, IfOk, IfErr, OnOk, MatchOption, codes, map, string_bytes};
+ghost use Rattle.std.specs.Prelude.{◌≡◌, ◌≢◌, ◌↔◌, [], ◌∷◌, ◌++◌, ℕ, List, IfOk, OnOk, MatchOption, codes, map, string_bytes};
 ghost use Rattle.std.specs.BTreeSet.{contains_text, IsOrdered};
-ghost use Rattle.std.specs.List.{All, filter_map, list_any};
+ghost use Rattle.std.specs.List.{All, Contains, filter_map, list_any};
+ghost use Rattle.std.specs.List.Sorted.{IsStrictlySortedBy};
 ghost use Rattle.std.specs.Str.{bytes_eq};
 ghost use Rattle.std.specs.String.{string_cmp};
 ghost use Rattle.outside.specs.Faults.{CountsFolder};
-ghost use Rattle.outside.specs.Files.{IsListing, IsThere, IsReading};
-ghost use Rattle.strict_top.specs.Decided.{view_of};
-ghost use Rattle.strict_top.specs.Modules.{Source, AreModules, AreRead, is_module_name, module_in, reserved_modules};
+ghost use Rattle.outside.specs.Files.{Files, IsListing, IsThere, IsReading};
+ghost use Rattle.strict_top.specs.Modules.{Source, AreModules, LiesIn, modules, source_cmp, is_module_name, module_in, reserved_modules};
 ghost use Rattle.strict_top.specs.Reports.{judged};
 ghost use Rattle.strict_top.specs.Verdicts.{verdict_of};
+ghost use Rattle.strict_top.specs.Steps.{AreRead, view_of};
 
 use crate::report::Decided;
 use crate::verdict::{Verdict, decide};
 use outside::folder::{Folder, FolderFault};
-use py_lexer::names::{is_identifier, is_keyword};
+use py_lexer::names::{is_among, is_identifier, is_keyword};
 use std::alloc::{AllocError, Global};
 use std::collections::BTreeSet;
 
@@ -33,20 +34,27 @@ pub(crate) fn decide_all<F: Folder>(
     folder: &mut F,
     dir: &str,
 ) -> Result<Vec<Decided>, FolderFault>
-    ensures decided { IfOk result (λ decided. (sources : List Source) × AreModules (F.told folder.old dir.now) sources × (map view_of decided.items ≡ map judged sources)) }
+    ensures decided { IfOk result (λ decided. (sources : List Source)
+        × AreModules (F.told folder.old dir.now) sources
+        × (map view_of decided.items ≡ map judged sources)) }
     ensures count { CountsFolder result (F.faults folder.old) (F.faults folder.new) }
     ensures same { F.told folder.new ≡ F.told folder.old }
 {
     let files = folder.list(alloc, dir)?;
-    let Ok(names) = modules_among(alloc, &files) else {
-        return Err(FolderFault::Memory);
-    };
+    let names = modules_among(alloc, &files)?;
     decide_each(alloc, folder, dir, &names)
 }
 
+/// The law of the modules of a directory: they are exactly those that lie in it, and each name is below the next.
+pub fn modules_of_a_directory()
+    ensures members { (files : Files) (source : Source) → Contains (modules files) source ↔ LiesIn files source }
+    ensures ordered { (files : Files) → IsStrictlySortedBy source_cmp (modules files) }
+{}
+
 /// The names of the modules that lie in the files of these names.
 fn modules_among(alloc: Global, files: &[String]) -> Result<BTreeSet<String>, AllocError>
-    ensures members { IfOk result (λ names. (name : List ℕ) → contains_text names name ≡ list_any (bytes_eq name) (filter_map module_in (map string_bytes files.now))) }
+    ensures members { IfOk result (λ names. (name : List ℕ) → contains_text names name
+        ≡ list_any (bytes_eq name) (filter_map module_in (map string_bytes files.now))) }
     ensures ordered { IfOk result (IsOrdered string_cmp) }
 {
     let mut names = BTreeSet::new(alloc);
@@ -63,7 +71,9 @@ fn modules_among(alloc: Global, files: &[String]) -> Result<BTreeSet<String>, Al
 
 /// The name of a file without the ending of Python modules, where it has it.
 fn stem_of(file: &str) -> Option<&str>
-    ensures { MatchOption result ((stem : List ℕ) → file.now ≢ stem ++ codes ".py") (λ stem. file.now ≡ stem.now ++ codes ".py") }
+    ensures { MatchOption result
+        ((stem : List ℕ) → file.now ≢ stem ++ codes ".py")
+        (λ stem. file.now ≡ stem.now ++ codes ".py") }
 {
     file.strip_suffix(".py")
 }
@@ -79,7 +89,7 @@ fn is_module_name(alloc: Global, name: &str) -> Result<bool, AllocError>
 fn is_reserved(name: &[u8]) -> bool
     ensures { result ≡ list_any (bytes_eq name.now) reserved_modules }
 {
-    RESERVED.iter().any(|reserved| name == *reserved)
+    is_among(name, &RESERVED)
 }
 
 /// Reads and decides the modules of these names, one after the other.
@@ -89,8 +99,11 @@ fn decide_each<F: Folder>(
     dir: &str,
     names: &BTreeSet<String>,
 ) -> Result<Vec<Decided>, FolderFault>
-    requires { All (λ name. IsThere (F.told folder.old dir.now) (string_bytes name ++ codes ".py")) names.now.keys }
-    ensures decided { IfOk result (λ decided. (sources : List Source) × AreRead (F.told folder.old dir.now) (map string_bytes names.now.keys) sources × (map view_of decided.items ≡ map judged sources)) }
+    requires { All (λ name. IsThere (F.told folder.old dir.now) (string_bytes name ++ codes ".py"))
+        names.now.keys }
+    ensures decided { IfOk result (λ decided. (sources : List Source)
+        × AreRead (F.told folder.old dir.now) (map string_bytes names.now.keys) sources
+        × (map view_of decided.items ≡ map judged sources)) }
     ensures count { CountsFolder result (F.faults folder.old) (F.faults folder.new) }
     ensures same { F.told folder.new ≡ F.told folder.old }
 {
@@ -109,17 +122,13 @@ fn add(
     decided: &mut Vec<Decided>,
     name: &str,
     verdict: Verdict,
-) -> Result<(), FolderFault>
-    ensures ok { OnOk result (map view_of decided.new.items ≡ map view_of decided.old.items ++ (name.now, verdict) ∷ []) }
-    ensures err { IfErr result (λ fault. fault ≡ FolderFault.Memory) }
+) -> Result<(), AllocError>
+    ensures { OnOk result
+        (map view_of decided.new.items ≡ map view_of decided.old.items ++ (name.now, verdict) ∷ []) }
 {
-    let Ok(name) = String::from_str(alloc, name) else {
-        return Err(FolderFault::Memory);
-    };
-    match decided.push(Decided { name, verdict }) {
-        Ok(()) => Ok(()),
-        Err(_) => Err(FolderFault::Memory),
-    }
+    let name = String::from_str(alloc, name)?;
+    decided.push(Decided { name, verdict })?;
+    Ok(())
 }
 
 /// Reads and decides the module of that name.
@@ -130,16 +139,13 @@ fn decide_one<F: Folder>(
     name: &str,
 ) -> Result<Verdict, FolderFault>
     requires { IsThere (F.told folder.old dir.now) (name.now ++ codes ".py") }
-    ensures decided { IfOk result (λ verdict. (bytes : List ℕ) × IsReading (F.told folder.old dir.now) (name.now ++ codes ".py") bytes × (verdict ≡ verdict_of bytes)) }
+    ensures decided { IfOk result (λ verdict. (bytes : List ℕ)
+        × IsReading (F.told folder.old dir.now) (name.now ++ codes ".py") bytes
+        × (verdict ≡ verdict_of bytes)) }
     ensures count { CountsFolder result (F.faults folder.old) (F.faults folder.new) }
     ensures same { F.told folder.new ≡ F.told folder.old }
 {
-    let Ok(file) = format!(in alloc; "{name}.py") else {
-        return Err(FolderFault::Memory);
-    };
+    let file = format!(in alloc; "{name}.py")?;
     let bytes = folder.read(alloc, dir, file.as_str())?;
-    let Ok(verdict) = decide(alloc, &bytes) else {
-        return Err(FolderFault::Memory);
-    };
-    Ok(verdict)
+    Ok(decide(alloc, &bytes)?)
 }

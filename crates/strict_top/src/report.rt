@@ -3,7 +3,7 @@ ghost use Rattle.std.specs.Option.{ForSome};
 ghost use Rattle.outside.specs.Bytes.{Appends, Takes};
 ghost use Rattle.outside.specs.Faults.{CountsSink};
 ghost use Rattle.strict_top.specs.Reports.{verdict_line, report_of, is_refused};
-ghost use Rattle.strict_top.specs.Decided.{view_of};
+ghost use Rattle.strict_top.specs.Steps.{view_of};
 
 use crate::verdict::Verdict;
 use outside::sink::{Sink, SinkFault};
@@ -51,21 +51,22 @@ pub(crate) fn write_report<S: Sink>(
     decided: &[Decided],
 ) -> Result<(), SinkFault>
     requires { ForSome (S.room sink.old) (λ room. length (report_of (map view_of decided.now)).bytes ≤ room) }
-    ensures ok { OnOk result (Appends (S.written sink.old) (S.written sink.new) (report_of (map view_of decided.now)).bytes) }
-    ensures err { OnErr result ((n : ℕ) × Appends (S.written sink.old) (S.written sink.new) (take n (report_of (map view_of decided.now)).bytes)) }
+    ensures ok { OnOk result
+        (Appends (S.written sink.old) (S.written sink.new) (report_of (map view_of decided.now)).bytes) }
+    ensures err { OnErr result ((n : ℕ)
+        × Appends (S.written sink.old) (S.written sink.new) (take n (report_of (map view_of decided.now)).bytes)) }
     ensures count { CountsSink result (S.faults sink.old) (S.faults sink.new) }
 {
     for entry in decided {
-        let Ok(line) = line_of(alloc, entry) else {
-            return Err(SinkFault::Memory);
-        };
+        let line = line_of(alloc, entry)?;
         write_all(sink, line.as_bytes())?;
     }
     Ok(())
 }
 
 fn line_of(alloc: Global, decided: &Decided) -> Result<String, AllocError>
-    ensures { IfOk result (λ line. string_bytes line ≡ verdict_line (string_bytes decided.now.name) decided.now.verdict) }
+    ensures { IfOk result (λ line.
+        string_bytes line ≡ verdict_line (string_bytes decided.now.name) decided.now.verdict) }
 {
     let name = decided.name.as_str();
     let verdict = decided.verdict;
@@ -77,7 +78,8 @@ pub(crate) fn write_all<S: Sink>(sink: &mut S, bytes: &[u8]) -> Result<(), SinkF
     requires { ForSome (S.room sink.old) (λ room. length bytes.now ≤ room) }
     ensures ok { OnOk result (Appends (S.written sink.old) (S.written sink.new) bytes.now) }
     ensures room { OnOk result (Takes (S.room sink.old) (S.room sink.new) (length bytes.now)) }
-    ensures err { OnErr result ((n : ℕ) × Appends (S.written sink.old) (S.written sink.new) (take n bytes.now)) }
+    ensures err { OnErr result ((n : ℕ)
+        × Appends (S.written sink.old) (S.written sink.new) (take n bytes.now)) }
     ensures count { CountsSink result (S.faults sink.old) (S.faults sink.new) }
 {
     let mut rest = bytes;

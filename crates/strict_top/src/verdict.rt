@@ -91,7 +91,7 @@ fn count_globals(alloc: Global, text: &[u8]) -> Result<usize, AllocError>
 {
     let mut names = IndexSet::new(alloc);
     let mut lines = Lines::new(text);
-    lines.next();
+    lines.next(); // the marker
     for line in lines {
         if let Some(name) = bound_name(line) {
             names.insert(name)?;

@@ -4,7 +4,7 @@ ghost use Rattle.outside.specs.Memory.{told_in};
 
 use super::MemoryFolder;
 use crate::folder::{Folder, FolderFault};
-use crate::rows::{Bytes, CallList, DirList, DirRow, FileList, FileRow};
+use crate::rows::{Bytes, CallList, DirList, DirRow, ElementAt, FileList, FileRow};
 use std::alloc::{AllocError, Global};
 use std::process::Abort;
 use std::test::Fail;
@@ -53,6 +53,8 @@ fn gives_its_files_and_fails_when_told(rt: HostRuntime) -> Result<(), Fail> {
     let alloc = rt.alloc();
     let mut failing = CallList::new(alloc);
     failing.push(3)?;
+    assert_eq!(rt; failing.len(), 1);
+    assert_eq!(rt; *failing.at(0), 3);
     let mut folder = sample_folder(&rt, alloc, failing)?;
 
     let names = folder.list(alloc, "src")?;

@@ -1,3 +1,4 @@
+-- Digits are a text, and `parse` gives a number where their value is an `int`.
 use Rattle.std.proofs.Common.{◌∙◌}
 use Rattle.strict_top.proofs.LiteralLemmas.{digits_utf8, is_ok-parse}
 use Rattle.strict_top.proofs.assignment.fits_int.Goals as goal

@@ -1,8 +1,7 @@
-use Rattle.std.proofs.Common.{◌≡◌, ℕ, List, [], ◌∷◌, ◌++◌, map, codes, string_bytes, sym, ap, ◌∙◌, subst}
-use Rattle.std.proofs.lemmas.List.{map-append}
+use Rattle.std.proofs.Common.{◌≡◌, ℕ, List, ◌++◌, map, codes, sym, ◌∙◌, subst}
 use Rattle.outside.specs.Files.{Told, IsReading}
-use Rattle.strict_top.specs.Decided.{view_of}
 use Rattle.strict_top.specs.Reports.{Judged, judged}
+use Rattle.strict_top.specs.Steps.{view_of}
 use Rattle.strict_top.proofs.Reading.{IsRead, read_more, names_yielded}
 use Rattle.strict_top.proofs.modules.decide_each.Goals as goal
 
@@ -21,7 +20,7 @@ loop-name-preserved g c =
       can = tt;
       ends = tt;
       read = subst (λ names. IsRead told names (map view_of c.add.new.decided.items)) (names_yielded c.loop-name.yielded c.in-Some.name name c.as_str-name.ensures.value)
-          (subst (IsRead told _) (sym c.in_ok-add.ensures.ok) more);
+          (subst (IsRead told _) (sym c.in_ok-add.ensures) more);
       count = c.in_ok-verdict.ensures.count ∙ c.loop-name.invariant.count;
       same = c.in_ok-verdict.ensures.same ∙ c.loop-name.invariant.same;
     }

@@ -1,9 +1,7 @@
-use Rattle.std.proofs.Common.{◌≡◌, ℕ, List, map, string_bytes}
-use Rattle.strict_top.specs.Decided.{view_of}
-use Rattle.strict_top.specs.Modules.{Source, AreRead}
-use Rattle.strict_top.specs.Reports.{judged}
+use Rattle.std.proofs.Common.{◌≡◌, map, string_bytes}
 use Rattle.strict_top.proofs.Reading.{IsRead}
 use Rattle.strict_top.proofs.modules.decide_each.Given as goal
+use Rattle.strict_top.specs.Steps.{view_of}
 
 -- the modules so far are read and decided, and the folder is as it was
 abbrev pub invariant-loop-name : goal.invariant-loop-name

@@ -1,7 +1,6 @@
 use Rattle.std.proofs.Common.{◌≡◌, ℕ, List, ◌++◌, codes, string_bytes, IfOk, ap, sym, ◌∙◌, append_assoc}
 use Rattle.std.proofs.lemmas.Result.{IfOk-weaker}
 use Rattle.strict_top.specs.Reports.{verdict_line, verdict_text}
-use Rattle.strict_top.specs.declared.verdict.Verdict.{Verdict}
 use Rattle.strict_top.proofs.report.line_of.Goals as goal
 
 -- the same parts, grouped the other way

@@ -1,7 +1,7 @@
 use Rattle.std.proofs.Common.{◌≡◌, drop, map}
 use Rattle.std.specs.List.{flat_map}
-use Rattle.strict_top.specs.Decided.{view_of}
 use Rattle.strict_top.specs.Reports.{line_of, report_of}
+use Rattle.strict_top.specs.Steps.{view_of}
 use Rattle.strict_top.proofs.Writing.{HasWritten}
 use Rattle.strict_top.proofs.report.write_report.Given as goal
 

@@ -1,7 +1,7 @@
-use Rattle.std.proofs.Common.{◌∙◌, ap, map, refl, inr, string_bytes, List, ℕ, sym}
-use Rattle.strict_top.specs.Decided.{view_of}
+use Rattle.std.proofs.Common.{◌∙◌, ap, map, refl, inr, string_bytes}
 use Rattle.strict_top.specs.Reports.{report_of, bad_words}
 use Rattle.strict_top.specs.Words.{directory_of}
+use Rattle.strict_top.specs.Steps.{view_of}
 use Rattle.strict_top.proofs.RunLemmas.{report_of_bad_words, report_on_modules, only_report, writes_exactly, writes_ended, writes_fault, writes_memory}
 use Rattle.strict_top.proofs.run.run_one.Goals as goal
 

@@ -1,12 +1,11 @@
-use Rattle.std.proofs.Common.{◌≡◌, List, map, rules, sym, ap, ◌∙◌}
+use Rattle.std.proofs.Common.{rules, sym, ap, ◌∙◌}
 use Rattle.std.specs.Bool.{if◌then◌else◌}
-use Rattle.std.specs.List.{list_any}
 use Rattle.std.proofs.lemmas.Iterator.{YieldsList-from_slice}
 use Rattle.std.proofs.lemmas.Iterator.Search.{any_from_yields_List}
 use borrow.Author.Tests.{tests}
 use Rattle.strict_top.specs.declared.status.Status.TheVariants.{Done, Refused}
-use Rattle.strict_top.specs.Decided.{view_of}
 use Rattle.strict_top.specs.Reports.{is_refused_module}
+use Rattle.strict_top.specs.Steps.{view_of}
 use Rattle.strict_top.proofs.ReportLemmas.{any_viewed}
 use Rattle.strict_top.proofs.run.status_of.Goals as goal
 

@@ -1,0 +1,2 @@
+"""no marker: left alone"""
+print("hi")

@@ -1,0 +1,4 @@
+import __strict__
+DOOR = 120
+WALL = 450
+DOOR = 125

@@ -1,0 +1,3 @@
+import __static__
+SIZE = 3
+RATE=2
