@@ -14,7 +14,8 @@ fn main(rt: HostRuntime) -> ExitCode {
     let alloc = rt.alloc();
     let words = match words(&rt) {
         Ok(words) => words,
-        Err(error) if error.kind() == io::ErrorKind::OutOfMemory => return Status::OutOfMemory.into(),
+        Err(error) if error.kind() == io::ErrorKind::OutOfMemory =>
+            return Status::OutOfMemory.into(),
         // A word that isn't UTF-8 is never taken, and neither are no words.
         Err(_) => Vec::new(alloc),
     };
