@@ -9,3 +9,4 @@ pub mod LiteralLemmas
 pub mod AssignmentLemmas
 pub mod OnceLemmas
 pub mod LineLemmas
+pub mod SpellingLemmas

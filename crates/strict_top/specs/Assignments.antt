@@ -1,5 +1,5 @@
 -- The lines `NAME = INT` that a module may have below its marker, and the names that they bind.
-use Rattle.std.specs.Prelude.{ℕ, ◌==◌, ◌||◌, ◌&&◌, nat_eq, nat_le, Bool, false, not, if◌then◌else◌, List, [], ◌∷◌, length, drop, codes, Option, Some, None}
+use Rattle.std.specs.Prelude.{◌≡◌, ℕ, ◌==◌, ◌||◌, ◌&&◌, nat_eq, nat_le, Bool, true, false, not, if◌then◌else◌, List, [], ◌∷◌, ◌++◌, length, drop, codes, Option, Some, None}
 use Rattle.std.specs.Char.{is_ascii_alphabetic, is_ascii_alphanumeric, is_ascii_digit}
 use Rattle.std.specs.List.{before_first, starts_with, ends_with, list_any, list_all, filter}
 use Rattle.std.specs.Str.{bytes_eq}
@@ -47,6 +47,13 @@ bound_by line =
     let name = before_first (λ byte. byte == 32) line in
     let rest = drop (length name) line in
     if is_name name && starts_with nat_eq rest (codes " = ") && is_literal (drop 3 rest) then Some name else None
+
+-- The same by its spelling: the line is the name, ` = ` and an integer.
+pub record IsAssignment (line name : List ℕ) : Type 0 where
+  pub literal : List ℕ
+  pub named : is_name name ≡ true
+  pub valued : is_literal literal ≡ true
+  pub spelled : line ≡ name ++ codes " = " ++ literal
 
 -- A list in which each stands once, at its first place.
 abbrev pub each_once : List (List ℕ) → List (List ℕ)

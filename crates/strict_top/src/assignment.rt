@@ -1,10 +1,10 @@
-ghost use Rattle.std.specs.Prelude.{◌≡◌, ◌==◌, ◌&&◌, ◌||◌, ◌<◌, IfSome, IsTrue, not, length, map, position, nat_le, nat_eq};
+ghost use Rattle.std.specs.Prelude.{◌≡◌, ◌↔◌, ℕ, List, Some, ◌==◌, ◌&&◌, ◌||◌, ◌<◌, IfSome, IsTrue, not, length, map, position, nat_le, nat_eq};
 ghost use Rattle.std.specs.Char.{is_ascii_alphabetic, is_ascii_alphanumeric, is_ascii_digit};
 ghost use Rattle.std.specs.List.{list_all, list_any, starts_with};
 ghost use Rattle.std.specs.Option.{option_copied};
 ghost use Rattle.std.specs.Str.{bytes_eq};
 ghost use Rattle.std.specs.Str.Parse.{digits_value};
-ghost use Rattle.strict_top.specs.Assignments.{builtins, is_ascii_identifier, is_special, is_name, is_literal, greatest_int, bound_by};
+ghost use Rattle.strict_top.specs.Assignments.{IsAssignment, builtins, is_ascii_identifier, is_special, is_name, is_literal, greatest_int, bound_by};
 
 use py_lexer::names::{is_among, is_keyword};
 use std::str;
@@ -21,6 +21,11 @@ pub(crate) fn bound_name(line: &[u8]) -> Option<&[u8]>
         None
     }
 }
+
+/// The law of the lines `NAME = INT`: one binds a name exactly where it is spelled so.
+pub fn one_spelling()
+    ensures { (line name : List ℕ) → (bound_by line ≡ Some name) ↔ IsAssignment line name }
+{}
 
 fn first_space(line: &[u8]) -> Option<usize>
     ensures place { result ≡ position (λ byte. byte == 32) line.now }

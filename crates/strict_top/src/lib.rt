@@ -1,7 +1,7 @@
 //! The top call of the loader: from the words after a program's name and a folder to the report on its modules.
 #![tactic(auto)]
 
-mod assignment;
+pub mod assignment;
 pub mod modules;
 mod report;
 pub mod run;
