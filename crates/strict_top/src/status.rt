@@ -18,7 +18,7 @@ pub enum Status {
     FolderFault,
     /// The sink failed. The first bytes of the report were written.
     SinkFault,
-    /// There was no memory. The first bytes of the report were written.
+    /// There was no memory. Nothing was written, or the first bytes of the report.
     OutOfMemory,
     /// The folder has too many modules, or too many bytes. Nothing was written.
     TooLarge,
