@@ -5,3 +5,4 @@
 pub mod lines;
 pub mod marker;
 pub mod names;
+pub mod token;

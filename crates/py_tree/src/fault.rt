@@ -1,4 +1,5 @@
 use crate::code::Code;
+use std::alloc::{AllocError, AllocFailed};
 
 /// Why a module is refused, and where.
 #[derive(Clone, Copy, Debug, PartialEq, Eq)]
@@ -6,4 +7,30 @@ pub struct Fault {
     /// The physical line, from 1.
     pub line: u32,
     pub code: Code,
+}
+
+/// Why a call that reads a module has no value: the module is at fault, or no memory was found.
+#[derive(Debug)]
+pub enum Stop {
+    Fault(Fault),
+    Memory(AllocError),
+}
+
+impl From<Fault> for Stop {
+    fn from(fault: Fault) -> Stop {
+        Stop::Fault(fault)
+    }
+}
+
+impl From<AllocError> for Stop {
+    fn from(error: AllocError) -> Stop {
+        Stop::Memory(error)
+    }
+}
+
+/// Drops what could not be kept.
+impl<T: Drop> From<AllocFailed<T>> for Stop {
+    fn from(error: AllocFailed<T>) -> Stop {
+        Stop::Memory(AllocError::from(error))
+    }
 }

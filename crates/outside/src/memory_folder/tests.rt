@@ -4,7 +4,8 @@ ghost use Rattle.outside.specs.Memory.{told_in};
 
 use super::MemoryFolder;
 use crate::folder::{Folder, FolderFault};
-use crate::rows::{Bytes, CallList, DirList, DirRow, ElementAt, FileList, FileRow};
+use crate::rows::{Bytes, CallList, DirList, DirRow, FileList, FileRow};
+use lists::ElementAt;
 use std::alloc::{AllocError, Global};
 use std::process::Abort;
 use std::test::Fail;

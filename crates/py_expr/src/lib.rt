@@ -1,0 +1,4 @@
+//! The line grammar: the one form that the tokens of a logical line spell.
+#![tactic(auto)]
+
+pub mod form;
