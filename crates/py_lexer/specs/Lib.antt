@@ -1,3 +1,9 @@
 pub mod Lines
 pub mod Marker
 pub mod Names
+pub mod Characters
+pub mod Integers
+pub mod Strings
+pub mod Tokens
+pub mod Pieces
+pub mod Lexing

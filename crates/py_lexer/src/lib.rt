@@ -1,8 +1,12 @@
-//! How the bytes of a module are read: its physical lines, the marker by which it asks for the strict rules, and which
-//! names are identifiers and keywords.
+//! How the bytes of a module are read: as logical lines of tokens; and its physical lines, the marker by which it asks
+//! for the strict rules, and which names are identifiers and keywords.
 #![tactic(auto)]
 
+pub mod character;
+pub mod escape;
 pub mod lines;
 pub mod marker;
 pub mod names;
+pub mod piece;
+pub mod string_literal;
 pub mod token;

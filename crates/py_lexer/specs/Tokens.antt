@@ -1,0 +1,75 @@
+-- The tokens of a text (Python reference: lexical analysis).
+use Rattle.std.specs.Prelude.{◌≡◌, ℕ, ◌==◌, nat_eq, Bool, true, false, if◌then◌else◌, List, [], ◌∷◌, codes, drop, length, Option, Some, None}
+use Rattle.std.specs.List.{find, starts_with}
+use Rattle.std.specs.Option.{option_map}
+use Rattle.std.specs.Str.{bytes_eq}
+use Rattle.unicode_ident.specs.Ident.{is_xid_continue}
+use Rattle.unicode_normalization.specs.Forms.{is_in_form}
+use Rattle.unicode_normalization.specs.declared.Form.TheVariants.{Nfkc}
+use Rattle.py_lexer.specs.declared.character.CharKind.TheVariants as kind
+use Rattle.py_lexer.specs.declared.token.Token.{Token}
+use Rattle.py_lexer.specs.declared.token.Token.TheVariants as token
+use Rattle.py_lexer.specs.declared.token.Keyword.{Keyword}
+use Rattle.py_lexer.specs.declared.token.Keyword.TheVariants as word
+use Rattle.py_lexer.specs.declared.token.Mark.{Mark}
+use Rattle.py_lexer.specs.declared.token.Mark.TheVariants as mark
+use Rattle.py_lexer.specs.Characters.{Text, kind_of, is_quote, front, behind}
+use Rattle.py_lexer.specs.Integers.{in_number, Integer}
+use Rattle.py_lexer.specs.Strings.{after_two, Parts}
+
+-- ---- keywords
+
+abbrev pub keywords : List (List ℕ × Keyword)
+keywords =
+    (codes "False", word.False) ∷ (codes "None", word.None) ∷ (codes "True", word.True) ∷ (codes "and", word.And) ∷ (codes "as", word.As)
+    ∷ (codes "assert", word.Assert) ∷ (codes "async", word.Async) ∷ (codes "await", word.Await) ∷ (codes "break", word.Break) ∷ (codes "class", word.Class)
+    ∷ (codes "continue", word.Continue) ∷ (codes "def", word.Def) ∷ (codes "del", word.Del) ∷ (codes "elif", word.Elif) ∷ (codes "else", word.Else)
+    ∷ (codes "except", word.Except) ∷ (codes "finally", word.Finally) ∷ (codes "for", word.For) ∷ (codes "from", word.From) ∷ (codes "global", word.Global)
+    ∷ (codes "if", word.If) ∷ (codes "import", word.Import) ∷ (codes "in", word.In) ∷ (codes "is", word.Is) ∷ (codes "lambda", word.Lambda)
+    ∷ (codes "nonlocal", word.Nonlocal) ∷ (codes "not", word.Not) ∷ (codes "or", word.Or) ∷ (codes "pass", word.Pass) ∷ (codes "raise", word.Raise)
+    ∷ (codes "return", word.Return) ∷ (codes "try", word.Try) ∷ (codes "while", word.While) ∷ (codes "with", word.With) ∷ (codes "yield", word.Yield) ∷ []
+
+abbrev pub keyword_of : List ℕ → Option Keyword
+keyword_of name = option_map (λ e. e.1) (find (λ e. bytes_eq e.0 name) keywords)
+
+-- the token of a name: a keyword is no identifier
+abbrev pub named_or : Option Keyword → List ℕ → Token
+named_or (Some word) name = token.Word word
+named_or None name = token.Name name
+
+abbrev pub named : List ℕ → Token
+named name = named_or (keyword_of name) name
+
+-- ---- operators and delimiters
+
+-- the longer ones first
+abbrev pub marks : List (List ℕ × Mark)
+marks =
+    (codes "//=", mark.DoubleSlashEqual) ∷ (codes "==", mark.EqualEqual) ∷ (codes "!=", mark.NotEqual) ∷ (codes "<=", mark.LessEqual)
+    ∷ (codes ">=", mark.GreaterEqual) ∷ (codes "+=", mark.PlusEqual) ∷ (codes "-=", mark.MinusEqual) ∷ (codes "*=", mark.StarEqual)
+    ∷ (codes "%=", mark.PercentEqual) ∷ (codes "->", mark.RightArrow) ∷ (codes "//", mark.DoubleSlash) ∷ (codes "+", mark.Plus)
+    ∷ (codes "-", mark.Minus) ∷ (codes "*", mark.Star) ∷ (codes "%", mark.Percent) ∷ (codes "<", mark.Less)
+    ∷ (codes ">", mark.Greater) ∷ (codes "=", mark.Equal) ∷ (codes "(", mark.LeftParen) ∷ (codes ")", mark.RightParen)
+    ∷ (codes "[", mark.LeftBracket) ∷ (codes "]", mark.RightBracket) ∷ (codes "{", mark.LeftBrace) ∷ (codes "}", mark.RightBrace)
+    ∷ (codes ",", mark.Comma) ∷ (codes ":", mark.Colon) ∷ (codes ".", mark.Dot) ∷ []
+
+-- the first of them with which a text begins, so the longest
+abbrev pub mark_at : Text → Option (List ℕ × Mark)
+mark_at s = find (λ e. starts_with nat_eq s e.0) marks
+
+-- ---- tokens
+
+abbrev pub begins_with_quote : Text → Bool
+begins_with_quote [] = false
+begins_with_quote (c ∷ s) = is_quote c
+
+-- `TokenAt s r t`: s begins with the token t, and r is behind it
+pub data TokenAt : Text → Text → Token → Type 0 where
+  -- a name is in NFKC, and no quote touches it
+  a_name : {c : ℕ} {s : Text} → kind_of c ≡ kind.Letter → is_in_form Nfkc (c ∷ front is_xid_continue s) ≡ true → begins_with_quote (behind is_xid_continue s) ≡ false
+      → TokenAt (c ∷ s) (behind is_xid_continue s) (named (c ∷ front is_xid_continue s))
+  -- of any value
+  an_integer : {c n : ℕ} {s : Text} → kind_of c ≡ kind.Digit → Integer (c ∷ front in_number s) n → TokenAt (c ∷ s) (behind in_number s) (token.Int n)
+  a_string : {c : ℕ} {s r : Text} {cs : List ℕ} → kind_of c ≡ kind.Quote → after_two c s ≡ None → Parts (record { mark = c; triple = false }) s r cs → TokenAt (c ∷ s) r (token.Str cs)
+  a_long_string : {c : ℕ} {s m r : Text} {cs : List ℕ} → kind_of c ≡ kind.Quote → after_two c s ≡ Some m → Parts (record { mark = c; triple = true }) m r cs → TokenAt (c ∷ s) r (token.Str cs)
+  a_mark : {c : ℕ} {s : Text} {e : List ℕ × Mark} → kind_of c ≡ kind.Other → mark_at (c ∷ s) ≡ Some e → TokenAt (c ∷ s) (drop (length e.0) (c ∷ s)) (token.Mark e.1)
