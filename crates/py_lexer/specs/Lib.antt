@@ -7,3 +7,5 @@ pub mod Strings
 pub mod Tokens
 pub mod Pieces
 pub mod Lexing
+pub mod Views
+pub mod Reading

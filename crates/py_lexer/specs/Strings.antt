@@ -1,5 +1,5 @@
 -- String literals (Python reference: lexical analysis, string and bytes literals). There are no prefixes.
-use Rattle.std.specs.Prelude.{◌≡◌, ℕ, ◌+◌, ◌*◌, ◌≤◌, ◌==◌, ◌||◌, ◌&&◌, Bool, true, false, if◌then◌else◌, nat_lt, List, [], ◌∷◌, take, drop, length, min, Option, Some, None}
+use Rattle.std.specs.Prelude.{◌≡◌, ℕ, ◌+◌, ◌*◌, ◌≤◌, ◌==◌, ◌||◌, ◌&&◌, Bool, true, false, if◌then◌else◌, nat_lt, List, [], ◌∷◌, take, drop, length, Option, Some, None}
 use Rattle.std.specs.Char.{digit_value, IsScalar}
 use Rattle.std.specs.List.{list_all, prefix_len}
 use Rattle.std.specs.Option.{option_and_then}
@@ -55,7 +55,7 @@ value_from base n (c ∷ cs) = value_from base (n * base + digit_value c) cs
 
 -- how many octal digits an escape has: as many as stand there, but no more than three
 abbrev pub octal_digits : Text → ℕ
-octal_digits s = min 3 (prefix_len is_octal s)
+octal_digits s = prefix_len is_octal (take 3 s)
 
 abbrev pub octal_value : Text → ℕ
 octal_value s = value_from 8 0 (take (octal_digits s) s)

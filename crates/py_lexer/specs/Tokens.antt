@@ -1,6 +1,6 @@
 -- The tokens of a text (Python reference: lexical analysis).
-use Rattle.std.specs.Prelude.{◌≡◌, ℕ, ◌==◌, nat_eq, Bool, true, false, if◌then◌else◌, List, [], ◌∷◌, codes, drop, length, Option, Some, None}
-use Rattle.std.specs.List.{find, starts_with}
+use Rattle.std.specs.Prelude.{◌≡◌, ℕ, ◌==◌, Bool, true, false, if◌then◌else◌, List, [], ◌∷◌, codes, Option, Some, None}
+use Rattle.std.specs.List.{find}
 use Rattle.std.specs.Option.{option_map}
 use Rattle.std.specs.Str.{bytes_eq}
 use Rattle.unicode_ident.specs.Ident.{is_xid_continue}
@@ -29,8 +29,11 @@ keywords =
     ∷ (codes "nonlocal", word.Nonlocal) ∷ (codes "not", word.Not) ∷ (codes "or", word.Or) ∷ (codes "pass", word.Pass) ∷ (codes "raise", word.Raise)
     ∷ (codes "return", word.Return) ∷ (codes "try", word.Try) ∷ (codes "while", word.While) ∷ (codes "with", word.With) ∷ (codes "yield", word.Yield) ∷ []
 
+abbrev pub keyword_among : List (List ℕ × Keyword) → List ℕ → Option Keyword
+keyword_among rows name = option_map (λ e. e.1) (find (λ e. bytes_eq e.0 name) rows)
+
 abbrev pub keyword_of : List ℕ → Option Keyword
-keyword_of name = option_map (λ e. e.1) (find (λ e. bytes_eq e.0 name) keywords)
+keyword_of = keyword_among keywords
 
 -- the token of a name: a keyword is no identifier
 abbrev pub named_or : Option Keyword → List ℕ → Token
@@ -53,9 +56,24 @@ marks =
     ∷ (codes "[", mark.LeftBracket) ∷ (codes "]", mark.RightBracket) ∷ (codes "{", mark.LeftBrace) ∷ (codes "}", mark.RightBrace)
     ∷ (codes ",", mark.Comma) ∷ (codes ":", mark.Colon) ∷ (codes ".", mark.Dot) ∷ []
 
--- the first of them with which a text begins, so the longest
-abbrev pub mark_at : Text → Option (List ℕ × Mark)
-mark_at s = find (λ e. starts_with nat_eq s e.0) marks
+-- what is behind a spelling at the front, if it stands there
+abbrev pub after_spelling : List ℕ → Text → Option Text
+after_spelling [] s = Some s
+after_spelling (c ∷ spelling) [] = None
+after_spelling (c ∷ spelling) (d ∷ s) = if d == c then after_spelling spelling s else None
+
+pub record MarkAt : Type 0 where
+  pub mark : Mark
+  pub rest : Text
+
+abbrev pub mark_or : Mark → Option Text → Option MarkAt → Option MarkAt
+mark_or m None other = other
+mark_or m (Some r) other = Some (record { mark = m; rest = r })
+
+-- the first of them with which a text begins, so the longest, and what is behind it
+abbrev pub first_mark : List (List ℕ × Mark) → Text → Option MarkAt
+first_mark [] s = None
+first_mark (e ∷ es) s = mark_or e.1 (after_spelling e.0 s) (first_mark es s)
 
 -- ---- tokens
 
@@ -72,4 +90,4 @@ pub data TokenAt : Text → Text → Token → Type 0 where
   an_integer : {c n : ℕ} {s : Text} → kind_of c ≡ kind.Digit → Integer (c ∷ front in_number s) n → TokenAt (c ∷ s) (behind in_number s) (token.Int n)
   a_string : {c : ℕ} {s r : Text} {cs : List ℕ} → kind_of c ≡ kind.Quote → after_two c s ≡ None → Parts (record { mark = c; triple = false }) s r cs → TokenAt (c ∷ s) r (token.Str cs)
   a_long_string : {c : ℕ} {s m r : Text} {cs : List ℕ} → kind_of c ≡ kind.Quote → after_two c s ≡ Some m → Parts (record { mark = c; triple = true }) m r cs → TokenAt (c ∷ s) r (token.Str cs)
-  a_mark : {c : ℕ} {s : Text} {e : List ℕ × Mark} → kind_of c ≡ kind.Other → mark_at (c ∷ s) ≡ Some e → TokenAt (c ∷ s) (drop (length e.0) (c ∷ s)) (token.Mark e.1)
+  a_mark : {c : ℕ} {s : Text} {x : MarkAt} → kind_of c ≡ kind.Other → first_mark marks (c ∷ s) ≡ Some x → TokenAt (c ∷ s) x.rest (token.Mark x.mark)

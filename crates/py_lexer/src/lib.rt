@@ -4,9 +4,11 @@
 
 pub mod character;
 pub mod escape;
+mod integer_literal;
 pub mod lines;
 pub mod marker;
 pub mod names;
 pub mod piece;
+mod spelled;
 pub mod string_literal;
 pub mod token;

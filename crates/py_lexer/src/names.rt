@@ -82,7 +82,7 @@ fn is_spelled_as_identifier(name: &str) -> bool
 }
 
 /// Whether a character may start an identifier.
-fn may_start_identifier(character: char) -> bool
+pub(crate) fn may_start_identifier(character: char) -> bool
     ensures { result ≡ may_start_identifier character }
 {
     is_xid_start(character) || character == '_'

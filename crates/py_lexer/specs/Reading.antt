@@ -1,0 +1,108 @@
+-- What stands at the front of a text, as functions, by which the code is proved. This is no definition of the language.
+use Rattle.std.specs.Prelude.{ℕ, ◌+◌, ◌*◌, ◌==◌, ◌&&◌, ◌<◌, nat_le, nat_lt, not, min, Bool, true, false, if◌then◌else◌, List, [], ◌∷◌, take, drop, length, Option, Some, None}
+use Rattle.std.specs.Char.{digit_value}
+use Rattle.std.proofs.Math.Utf8.{scalar}
+use Rattle.std.specs.List.{list_all}
+use Rattle.std.specs.Option.{option_map}
+use Rattle.unicode_ident.specs.Ident.{is_xid_continue}
+use Rattle.unicode_normalization.specs.Forms.{is_in_form}
+use Rattle.unicode_normalization.specs.declared.Form.TheVariants.{Nfkc}
+use Rattle.py_tree.specs.Literals.{greatest_int}
+use Rattle.py_lexer.specs.declared.character.CharKind.{CharKind}
+use Rattle.py_lexer.specs.declared.character.CharKind.TheVariants as kind
+use Rattle.py_lexer.specs.declared.escape.Escape.{Escape}
+use Rattle.py_lexer.specs.declared.escape.Escape.TheVariants as escape
+use Rattle.py_lexer.specs.declared.string_literal.Quotes.{Quotes}
+use Rattle.py_lexer.specs.declared.token.Token.{Token}
+use Rattle.py_lexer.specs.Characters.{Text, kind_of, front, behind, after_line_end}
+use Rattle.py_lexer.specs.Integers.{prefix_base}
+use Rattle.py_lexer.specs.Strings.{is_hexadecimal, escape_of, octal_digits, octal_value, hexadecimal_value}
+use Rattle.py_lexer.specs.Tokens.{named, begins_with_quote}
+
+pub record Lexeme : Type 0 where
+  pub token : Token
+  pub rest : Text
+
+abbrev pub name_at : ℕ → Text → Option Lexeme
+name_at c s =
+    if is_in_form Nfkc (c ∷ front is_xid_continue s) && not (begins_with_quote (behind is_xid_continue s))
+    then Some (record { token = named (c ∷ front is_xid_continue s); rest = behind is_xid_continue s })
+    else None
+
+abbrev pub name_in : Text → Option Lexeme
+name_in [] = None
+name_in (c ∷ s) = name_at c s
+
+-- ---- integers
+
+-- the value of the digits cs behind those of the value n, which have an underscore behind them or not
+abbrev pub digits_in : ℕ → ℕ → Bool → List ℕ → Option ℕ
+digits_in base n underscore [] = if underscore then None else Some n
+digits_in base n underscore (c ∷ cs) =
+    if c == 95 then (if underscore then None else digits_in base n true cs)
+    else (if nat_lt (digit_value c) base then digits_in base (n * base + digit_value c) false cs else None)
+
+abbrev pub zero_or : Bool → Option ℕ → Option ℕ
+zero_or true (Some n) = if n == 0 then Some n else None
+zero_or _ o = o
+
+abbrev pub decimal_in : List ℕ → Option ℕ
+decimal_in [] = None
+decimal_in (c ∷ cs) = if nat_lt (digit_value c) 10 then zero_or (c == 48) (digits_in 10 (digit_value c) false cs) else None
+
+abbrev pub prefixed_in : ℕ → List ℕ → Option ℕ
+prefixed_in base (c ∷ d ∷ e ∷ cs) = digits_in base 0 false (e ∷ cs)
+prefixed_in base _ = None
+
+abbrev pub by_base : Option ℕ → List ℕ → Option ℕ
+by_base None cs = decimal_in cs
+by_base (Some base) cs = prefixed_in base cs
+
+abbrev pub integer_in : List ℕ → Option ℕ
+integer_in cs = by_base (prefix_base cs) cs
+
+-- values above the greatest `int` are not told apart
+abbrev pub capped : ℕ → ℕ
+capped n = min n (greatest_int + 1)
+
+-- ---- strings
+
+-- a part of a string literal
+pub record Part : Type 0 where
+  pub character : Option ℕ
+  pub rest : Text
+
+abbrev pub nothing : Text → Part
+nothing r = record { character = None; rest = r }
+
+abbrev pub a_line_feed : Text → Part
+a_line_feed r = record { character = Some 10; rest = r }
+
+abbrev pub octal_in : Text → Option Part
+octal_in s = if nat_le (octal_value s) 255 then Some (record { character = Some (octal_value s); rest = drop (octal_digits s) s }) else None
+
+abbrev pub hexadecimal_in : ℕ → Text → Option Part
+hexadecimal_in n s =
+    if nat_le n (length s) && (list_all is_hexadecimal (take n s) && scalar (hexadecimal_value n s))
+    then Some (record { character = Some (hexadecimal_value n s); rest = drop n s })
+    else None
+
+abbrev pub escape_by : Escape → ℕ → Text → Option Part
+escape_by escape.LineEnd c s = option_map nothing (after_line_end (c ∷ s))
+escape_by (escape.Character d) c s = Some (record { character = Some d; rest = s })
+escape_by escape.Octal c s = octal_in (c ∷ s)
+escape_by (escape.Hexadecimal n) c s = hexadecimal_in n s
+escape_by escape.Unknown c s = None
+
+abbrev pub escape_in : Text → Option Part
+escape_in [] = None
+escape_in (c ∷ s) = escape_by (escape_of c) c s
+
+abbrev pub part_by : CharKind → Quotes → ℕ → Text → Option Part
+part_by kind.LineEnd q c s = if q.triple then option_map a_line_feed (after_line_end (c ∷ s)) else None
+part_by kind.Backslash q c s = escape_in s
+part_by _ q c s = Some (record { character = Some c; rest = s })
+
+abbrev pub part_in : Quotes → Text → Option Part
+part_in q [] = None
+part_in q (c ∷ s) = part_by (kind_of c) q c s
