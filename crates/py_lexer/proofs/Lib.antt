@@ -6,3 +6,4 @@ pub mod Tables
 pub mod Runs
 pub mod AfterSpelling
 pub mod Values
+pub mod Quoted

@@ -5,6 +5,7 @@ use Rattle.std.specs.Char.{is_ascii_digit}
 use Rattle.std.specs.List.{prefix_len, count_by}
 use Rattle.py_lexer.specs.declared.character.CharKind.{CharKind}
 use Rattle.py_lexer.specs.declared.character.CharKind.TheVariants as kind
+use Rattle.py_lexer.specs.declared.character.TokenKind.TheVariants as token_kind
 use Rattle.py_lexer.specs.Names.{may_start_identifier}
 
 abbrev pub Text : Type 0
@@ -35,10 +36,10 @@ kind_of c =
     else (if c == 35 then kind.Hash
     else (if is_line_character c then kind.LineEnd
     else (if c == 92 then kind.Backslash
-    else (if is_quote c then kind.Quote
-    else (if is_ascii_digit c then kind.Digit
-    else (if may_start_identifier c then kind.Letter
-    else kind.Other))))))
+    else (if is_quote c then kind.Token token_kind.String
+    else (if is_ascii_digit c then kind.Token token_kind.Integer
+    else (if may_start_identifier c then kind.Token token_kind.Name
+    else kind.Token token_kind.Mark))))))
 
 -- the longest run of characters at the front that pass, and what is behind it
 abbrev pub front : (ℕ → Bool) → Text → List ℕ

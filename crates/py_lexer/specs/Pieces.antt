@@ -5,8 +5,8 @@ use Rattle.py_tree.specs.Literals.{greatest_int}
 use Rattle.py_tree.specs.declared.code.Code.{Code}
 use Rattle.py_tree.specs.declared.code.Code.TheVariants as code
 use Rattle.py_tree.specs.declared.fault.Fault.{Fault}
-use Rattle.py_lexer.specs.declared.character.CharKind.{CharKind}
 use Rattle.py_lexer.specs.declared.character.CharKind.TheVariants as kind
+use Rattle.py_lexer.specs.declared.character.TokenKind.{TokenKind}
 use Rattle.py_lexer.specs.declared.token.Token.{Token}
 use Rattle.py_lexer.specs.declared.token.Token.TheVariants as token
 use Rattle.py_lexer.specs.declared.token.Mark.TheVariants as mark
@@ -65,20 +65,12 @@ pub data PieceAt (p : Place) : Text → Text → Place → Piece → Type 0 wher
   a_token : {s r : Text} {t : Token} → p.fresh ≡ false → TokenAt s r t → fits t ≡ true → p.tab ≡ None → depth_behind p.depth t ≤ 100
       → PieceAt p s r (behind_token p t (between s r)) (piece.Token t)
 
--- whether a character begins a token, where it begins anything
-abbrev pub begins_token : CharKind → Bool
-begins_token kind.Letter = true
-begins_token kind.Digit = true
-begins_token kind.Quote = true
-begins_token kind.Other = true
-begins_token _ = false
-
 abbrev pub fault : ℕ → Code → Fault
 fault line code = record { line = line; code = code }
 
 -- `NoPiece p s f`: at the place p a piece is wanted, s begins with none, and f is the fault
 pub data NoPiece (p : Place) : Text → Fault → Type 0 where
-  no_token : {c : ℕ} {s : Text} → p.fresh ≡ false → begins_token (kind_of c) ≡ true → ((r : Text) (t : Token) → TokenAt (c ∷ s) r t → ⊥) → NoPiece p (c ∷ s) (fault p.line code.BadToken)
+  no_token : {c : ℕ} {s : Text} {k : TokenKind} → p.fresh ≡ false → kind_of c ≡ kind.Token k → ((r : Text) (t : Token) → TokenAt (c ∷ s) r t → ⊥) → NoPiece p (c ∷ s) (fault p.line code.BadToken)
   -- a carriage return without a line feed
   no_line_end : {c : ℕ} {s : Text} → p.fresh ≡ false → kind_of c ≡ kind.LineEnd → after_line_end (c ∷ s) ≡ None → NoPiece p (c ∷ s) (fault p.line code.BadToken)
   -- a backslash that joins no line

@@ -98,8 +98,11 @@ abbrev pub escape_in : Text → Option Part
 escape_in [] = None
 escape_in (c ∷ s) = escape_by (escape_of c) c s
 
+abbrev pub line_end_in : Quotes → Text → Option Part
+line_end_in q s = if q.triple then option_map a_line_feed (after_line_end s) else None
+
 abbrev pub part_by : CharKind → Quotes → ℕ → Text → Option Part
-part_by kind.LineEnd q c s = if q.triple then option_map a_line_feed (after_line_end (c ∷ s)) else None
+part_by kind.LineEnd q c s = line_end_in q (c ∷ s)
 part_by kind.Backslash q c s = escape_in s
 part_by _ q c s = Some (record { character = Some c; rest = s })
 

@@ -84,6 +84,18 @@ after_two mark s = option_and_then (after_one mark) (after_one mark s)
 abbrev pub after_three : ℕ → Text → Option Text
 after_three mark s = option_and_then (after_two mark) (after_one mark s)
 
+pub record Opening : Type 0 where
+  pub quotes : Quotes
+  pub rest : Text
+
+abbrev pub opening_by : ℕ → Text → Option Text → Opening
+opening_by mark s (Some r) = record { quotes = record { mark = mark; triple = true }; rest = r }
+opening_by mark s None = record { quotes = record { mark = mark; triple = false }; rest = s }
+
+-- the opening quotes, by the first of them and what is behind it, and what they open: three where three stand, else one
+abbrev pub opening : ℕ → Text → Opening
+opening mark s = opening_by mark s (after_two mark s)
+
 -- what is behind the closing quotes at the front, if they stand there
 abbrev pub after_closing : Quotes → Text → Option Text
 after_closing q s = if q.triple then after_three q.mark s else after_one q.mark s

@@ -7,6 +7,7 @@ use Rattle.unicode_ident.specs.Ident.{is_xid_continue}
 use Rattle.unicode_normalization.specs.Forms.{is_in_form}
 use Rattle.unicode_normalization.specs.declared.Form.TheVariants.{Nfkc}
 use Rattle.py_lexer.specs.declared.character.CharKind.TheVariants as kind
+use Rattle.py_lexer.specs.declared.character.TokenKind.TheVariants as token_kind
 use Rattle.py_lexer.specs.declared.token.Token.{Token}
 use Rattle.py_lexer.specs.declared.token.Token.TheVariants as token
 use Rattle.py_lexer.specs.declared.token.Keyword.{Keyword}
@@ -15,7 +16,7 @@ use Rattle.py_lexer.specs.declared.token.Mark.{Mark}
 use Rattle.py_lexer.specs.declared.token.Mark.TheVariants as mark
 use Rattle.py_lexer.specs.Characters.{Text, kind_of, is_quote, front, behind}
 use Rattle.py_lexer.specs.Integers.{in_number, Integer}
-use Rattle.py_lexer.specs.Strings.{after_two, Parts}
+use Rattle.py_lexer.specs.Strings.{opening, Parts}
 
 -- ---- keywords
 
@@ -84,10 +85,9 @@ begins_with_quote (c ∷ s) = is_quote c
 -- `TokenAt s r t`: s begins with the token t, and r is behind it
 pub data TokenAt : Text → Text → Token → Type 0 where
   -- a name is in NFKC, and no quote touches it
-  a_name : {c : ℕ} {s : Text} → kind_of c ≡ kind.Letter → is_in_form Nfkc (c ∷ front is_xid_continue s) ≡ true → begins_with_quote (behind is_xid_continue s) ≡ false
+  a_name : {c : ℕ} {s : Text} → kind_of c ≡ kind.Token token_kind.Name → is_in_form Nfkc (c ∷ front is_xid_continue s) ≡ true → begins_with_quote (behind is_xid_continue s) ≡ false
       → TokenAt (c ∷ s) (behind is_xid_continue s) (named (c ∷ front is_xid_continue s))
   -- of any value
-  an_integer : {c n : ℕ} {s : Text} → kind_of c ≡ kind.Digit → Integer (c ∷ front in_number s) n → TokenAt (c ∷ s) (behind in_number s) (token.Int n)
-  a_string : {c : ℕ} {s r : Text} {cs : List ℕ} → kind_of c ≡ kind.Quote → after_two c s ≡ None → Parts (record { mark = c; triple = false }) s r cs → TokenAt (c ∷ s) r (token.Str cs)
-  a_long_string : {c : ℕ} {s m r : Text} {cs : List ℕ} → kind_of c ≡ kind.Quote → after_two c s ≡ Some m → Parts (record { mark = c; triple = true }) m r cs → TokenAt (c ∷ s) r (token.Str cs)
-  a_mark : {c : ℕ} {s : Text} {x : MarkAt} → kind_of c ≡ kind.Other → first_mark marks (c ∷ s) ≡ Some x → TokenAt (c ∷ s) x.rest (token.Mark x.mark)
+  an_integer : {c n : ℕ} {s : Text} → kind_of c ≡ kind.Token token_kind.Integer → Integer (c ∷ front in_number s) n → TokenAt (c ∷ s) (behind in_number s) (token.Int n)
+  a_string : {c : ℕ} {s r : Text} {cs : List ℕ} → kind_of c ≡ kind.Token token_kind.String → Parts (opening c s).quotes (opening c s).rest r cs → TokenAt (c ∷ s) r (token.Str cs)
+  a_mark : {c : ℕ} {s : Text} {x : MarkAt} → kind_of c ≡ kind.Token token_kind.Mark → first_mark marks (c ∷ s) ≡ Some x → TokenAt (c ∷ s) x.rest (token.Mark x.mark)

@@ -1,5 +1,5 @@
 -- How values of the code, which hold pointers, are seen. This is no definition of the language.
-use Rattle.std.specs.Prelude.{ℕ, ◌^◌, ◌&&◌, nat_lt, if◌then◌else◌, List, Option, Some, None}
+use Rattle.std.specs.Prelude.{ℕ, ◌^◌, ◌&&◌, nat_lt, if◌then◌else◌, List, Option, Some, None, Result, Ok, Err}
 use Rattle.std.specs.Char.{is_digit}
 use Rattle.std.specs.List.{list_all}
 use Rattle.std.specs.Borrow.{Bor}
@@ -8,7 +8,9 @@ use Rattle.py_lexer.specs.declared.token.Token.{Token}
 use Rattle.py_lexer.specs.Characters.{Text}
 use Rattle.py_lexer.specs.Tokens.{MarkAt}
 use Rattle.py_lexer.specs.Reading.{Lexeme, Part}
-use Rattle.py_lexer.specs.Strings.{value_from}
+use Rattle.std.specs.declared.alloc.AllocError.{AllocError}
+use Rattle.py_lexer.specs.declared.string_literal.Quotes.{Quotes}
+use Rattle.py_lexer.specs.Strings.{value_from, Parts}
 
 abbrev pub spelling_view : {X : Type 0} → Bor (List ℕ) × X → List ℕ × X
 spelling_view row = (row.0.now, row.1)
@@ -28,3 +30,9 @@ value_in base cs = value_in_from base 0 cs
 
 abbrev pub lexeme_view : Token × Bor Text → Lexeme
 lexeme_view x = record { token = x.0; rest = x.1.now }
+
+-- what is answered on the text behind the opening quotes q
+abbrev pub IsParts : Quotes → Text → Result (Option (List ℕ × Bor Text)) AllocError → Type 0
+IsParts q s (Ok (Some x)) = Parts q s x.1.now x.0
+IsParts q s (Ok None) = (r : Text) (cs : List ℕ) → Parts q s r cs → ⊥
+IsParts q s (Err e) = Unit {0}

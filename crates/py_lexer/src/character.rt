@@ -16,14 +16,21 @@ pub enum CharKind {
     LineEnd,
     /// A backslash, which joins two lines.
     Backslash,
-    /// A quote, which begins a string literal.
-    Quote,
-    /// A decimal digit, which begins an integer literal.
-    Digit,
-    /// A character that may start an identifier.
-    Letter,
-    /// Any other, which is at most part of an operator or delimiter.
-    Other,
+    /// Another, which begins a token.
+    Token(TokenKind),
+}
+
+/// What a token is, by the character that it begins with.
+#[derive(Clone, Copy, Debug, PartialEq, Eq)]
+pub enum TokenKind {
+    /// An identifier or a keyword: the character may start an identifier.
+    Name,
+    /// An integer literal: the character is a decimal digit.
+    Integer,
+    /// A string literal: the character is a quote.
+    String,
+    /// An operator or delimiter, if any token.
+    Mark,
 }
 
 impl CharKind {
@@ -37,10 +44,10 @@ impl CharKind {
             '#' => CharKind::Hash,
             '\n' | '\r' => CharKind::LineEnd,
             '\\' => CharKind::Backslash,
-            '\'' | '"' => CharKind::Quote,
-            _ if character.is_ascii_digit() => CharKind::Digit,
-            _ if may_start_identifier(character) => CharKind::Letter,
-            _ => CharKind::Other,
+            '\'' | '"' => CharKind::Token(TokenKind::String),
+            _ if character.is_ascii_digit() => CharKind::Token(TokenKind::Integer),
+            _ if may_start_identifier(character) => CharKind::Token(TokenKind::Name),
+            _ => CharKind::Token(TokenKind::Mark),
         }
     }
 }
