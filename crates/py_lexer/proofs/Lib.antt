@@ -7,3 +7,5 @@ pub mod Runs
 pub mod AfterSpelling
 pub mod Values
 pub mod Quoted
+pub mod Digits
+pub mod Lexemes

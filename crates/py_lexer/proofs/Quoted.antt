@@ -153,7 +153,7 @@ pub record ReadSoFar (q : Quotes) (text : Text) (cs : List ℕ) (s : Text) : Typ
 pub begins : (q : Quotes) (text : Text) → ReadSoFar q text [] text
 begins q text = record { found = λ r more d. d; only = λ r all d. (all, d) }
 
-same_part : {x y : Part} → {o : Option Part} → o ≡ Some x → o ≡ Some y → x ≡ y
+pub same_part : {x y : Part} → {o : Option Part} → o ≡ Some x → o ≡ Some y → x ≡ y
 same_part a b = cc
 
 behind_part : {q : Quotes} {s r : Text} {cs : List ℕ} (x : Part) → after_closing q s ≡ None → part_in q s ≡ Some x → Parts q s r cs → (more : List ℕ) × Parts q x.rest r more

@@ -1,5 +1,5 @@
 -- What stands at the front of a text, as functions, by which the code is proved. This is no definition of the language.
-use Rattle.std.specs.Prelude.{ℕ, ◌+◌, ◌*◌, ◌==◌, ◌&&◌, ◌<◌, nat_le, nat_lt, not, min, Bool, true, false, if◌then◌else◌, List, [], ◌∷◌, take, drop, length, Option, Some, None}
+use Rattle.std.specs.Prelude.{ℕ, ◌+◌, ◌*◌, ◌==◌, ◌&&◌, ◌||◌, ◌<◌, nat_le, nat_lt, not, min, Bool, true, false, if◌then◌else◌, List, [], ◌∷◌, take, drop, length, Option, Some, None, Result, Ok, Err}
 use Rattle.std.specs.Char.{digit_value}
 use Rattle.std.proofs.Math.Utf8.{scalar}
 use Rattle.std.specs.List.{list_all}
@@ -14,24 +14,50 @@ use Rattle.py_lexer.specs.declared.escape.Escape.{Escape}
 use Rattle.py_lexer.specs.declared.escape.Escape.TheVariants as escape
 use Rattle.py_lexer.specs.declared.string_literal.Quotes.{Quotes}
 use Rattle.py_lexer.specs.declared.token.Token.{Token}
+use Rattle.py_lexer.specs.declared.token.Token.TheVariants as token
+use Rattle.py_tree.specs.declared.code.Code.{Code}
+use Rattle.py_tree.specs.declared.code.Code.TheVariants as code
 use Rattle.py_lexer.specs.Characters.{Text, kind_of, front, behind, after_line_end}
-use Rattle.py_lexer.specs.Integers.{prefix_base}
+use Rattle.py_lexer.specs.Integers.{in_number, prefix_base}
 use Rattle.py_lexer.specs.Strings.{is_hexadecimal, escape_of, octal_digits, octal_value, hexadecimal_value}
-use Rattle.py_lexer.specs.Tokens.{named, begins_with_quote}
+use Rattle.py_lexer.specs.Tokens.{named, begins_with_quote, MarkAt, first_mark, marks}
 
 pub record Lexeme : Type 0 where
   pub token : Token
   pub rest : Text
 
-abbrev pub name_at : ℕ → Text → Option Lexeme
-name_at c s =
-    if is_in_form Nfkc (c ∷ front is_xid_continue s) && not (begins_with_quote (behind is_xid_continue s))
-    then Some (record { token = named (c ∷ front is_xid_continue s); rest = behind is_xid_continue s })
-    else None
+abbrev pub lexeme : Token → Text → Lexeme
+lexeme t r = record { token = t; rest = r }
 
-abbrev pub name_in : Text → Option Lexeme
-name_in [] = None
-name_in (c ∷ s) = name_at c s
+abbrev pub kind_at : Text → Option CharKind
+kind_at [] = None
+kind_at (c ∷ s) = Some (kind_of c)
+
+-- the first character with the longest run behind it that passes, and what is behind it
+abbrev pub run_at : (ℕ → Bool) → Text → List ℕ
+run_at p [] = []
+run_at p (c ∷ s) = c ∷ front p s
+
+abbrev pub behind_run : (ℕ → Bool) → Text → Text
+behind_run p [] = []
+behind_run p (c ∷ s) = behind p s
+
+abbrev pub name_token : List ℕ → Bool → Option Token
+name_token name touched = if touched || not (is_in_form Nfkc name) then None else Some (named name)
+
+abbrev pub lexeme_or_bad : Option Token → Text → Result Lexeme Code
+lexeme_or_bad None r = Err code.BadToken
+lexeme_or_bad (Some t) r = Ok (lexeme t r)
+
+abbrev pub name_at : Text → Result Lexeme Code
+name_at s = lexeme_or_bad (name_token (run_at is_xid_continue s) (begins_with_quote (behind_run is_xid_continue s))) (behind_run is_xid_continue s)
+
+abbrev pub mark_lexeme : Option MarkAt → Result Lexeme Code
+mark_lexeme None = Err code.BadToken
+mark_lexeme (Some x) = Ok (lexeme (token.Mark x.mark) x.rest)
+
+abbrev pub mark_lexeme_at : Text → Result Lexeme Code
+mark_lexeme_at s = mark_lexeme (first_mark marks s)
 
 -- ---- integers
 
@@ -64,6 +90,13 @@ integer_in cs = by_base (prefix_base cs) cs
 -- values above the greatest `int` are not told apart
 abbrev pub capped : ℕ → ℕ
 capped n = min n (greatest_int + 1)
+
+abbrev pub sized : Option ℕ → Text → Result Lexeme Code
+sized None r = Err code.BadToken
+sized (Some n) r = if nat_le n greatest_int then Ok (lexeme (token.Int n) r) else Err code.IntegerTooLarge
+
+abbrev pub integer_at : Text → Result Lexeme Code
+integer_at s = sized (integer_in (run_at in_number s)) (behind_run in_number s)
 
 -- ---- strings
 

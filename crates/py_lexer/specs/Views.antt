@@ -1,16 +1,22 @@
 -- How values of the code, which hold pointers, are seen. This is no definition of the language.
-use Rattle.std.specs.Prelude.{ℕ, ◌^◌, ◌&&◌, nat_lt, if◌then◌else◌, List, Option, Some, None, Result, Ok, Err}
+use Rattle.std.specs.Prelude.{◌≡◌, ℕ, Bool, true, false, ◌^◌, ◌&&◌, nat_lt, if◌then◌else◌, List, Option, Some, None, Result, Ok, Err}
 use Rattle.std.specs.Char.{is_digit}
 use Rattle.std.specs.List.{list_all}
 use Rattle.std.specs.Borrow.{Bor}
 use Rattle.py_lexer.specs.declared.token.Mark.{Mark}
 use Rattle.py_lexer.specs.declared.token.Token.{Token}
 use Rattle.py_lexer.specs.Characters.{Text}
-use Rattle.py_lexer.specs.Tokens.{MarkAt}
+use Rattle.py_lexer.specs.Tokens.{MarkAt, TokenAt}
+use Rattle.py_lexer.specs.Pieces.{fault, fits}
+use Rattle.py_tree.specs.declared.code.Code.{Code}
+use Rattle.py_tree.specs.declared.code.Code.TheVariants as code
+use Rattle.py_tree.specs.declared.fault.Fault.{Fault}
+use Rattle.py_tree.specs.declared.fault.Stop.{Stop}
+use Rattle.py_tree.specs.declared.fault.Stop.TheVariants as stop
 use Rattle.py_lexer.specs.Reading.{Lexeme, Part}
 use Rattle.std.specs.declared.alloc.AllocError.{AllocError}
 use Rattle.py_lexer.specs.declared.string_literal.Quotes.{Quotes}
-use Rattle.py_lexer.specs.Strings.{value_from, Parts}
+use Rattle.py_lexer.specs.Strings.{value_from, Opening, Parts}
 
 abbrev pub spelling_view : {X : Type 0} → Bor (List ℕ) × X → List ℕ × X
 spelling_view row = (row.0.now, row.1)
@@ -36,3 +42,32 @@ abbrev pub IsParts : Quotes → Text → Result (Option (List ℕ × Bor Text)) 
 IsParts q s (Ok (Some x)) = Parts q s x.1.now x.0
 IsParts q s (Ok None) = (r : Text) (cs : List ℕ) → Parts q s r cs → ⊥
 IsParts q s (Err e) = Unit {0}
+
+abbrev pub opening_view : Quotes × Bor Text → Opening
+opening_view x = record { quotes = x.0; rest = x.1.now }
+
+abbrev pub bad_token : ℕ → Stop
+bad_token line = stop.Fault (fault line code.BadToken)
+
+abbrev pub IsStopOn : ℕ → Result Lexeme Code → Stop → Type 0
+IsStopOn line read (stop.Memory e) = Unit {0}
+IsStopOn line read (stop.Fault f) = read ≡ Err f.code × (f.line ≡ line)
+
+-- what is answered where that is read on that line
+abbrev pub GivesLexeme : ℕ → Result Lexeme Code → Result (Token × Bor Text) Stop → Type 0
+GivesLexeme line read (Ok x) = read ≡ Ok (lexeme_view x)
+GivesLexeme line read (Err e) = IsStopOn line read e
+
+-- the fault where a token is wanted on that line
+pub data NoToken (line : ℕ) (s : Text) : Fault → Type 0 where
+  none : ((r : Text) (t : Token) → TokenAt s r t → ⊥) → NoToken line s (fault line code.BadToken)
+  too_large : {r : Text} {t : Token} → TokenAt s r t → fits t ≡ false → NoToken line s (fault line code.IntegerTooLarge)
+
+abbrev pub IsNoToken : ℕ → Text → Stop → Type 0
+IsNoToken line s (stop.Memory e) = Unit {0}
+IsNoToken line s (stop.Fault f) = NoToken line s f
+
+-- what is answered where a token is wanted on that line
+abbrev pub IsTokenAt : ℕ → Text → Result (Token × Bor Text) Stop → Type 0
+IsTokenAt line s (Ok x) = TokenAt s x.1.now x.0 × (fits x.0 ≡ true)
+IsTokenAt line s (Err e) = IsNoToken line s e

@@ -59,6 +59,13 @@ pub(crate) fn is_blank(character: char) -> bool
     character == ' ' || character == '\t'
 }
 
+/// Whether a character is a quote.
+pub(crate) fn is_quote(character: char) -> bool
+    ensures { result ≡ is_quote character }
+{
+    character == '\'' || character == '"'
+}
+
 /// Whether a character is part of a line end.
 pub(crate) fn is_line_character(character: char) -> bool
     ensures { result ≡ is_line_character character }
