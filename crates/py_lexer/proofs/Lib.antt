@@ -9,3 +9,6 @@ pub mod Values
 pub mod Quoted
 pub mod Digits
 pub mod Lexemes
+pub mod OnePiece
+pub mod Shorter
+pub mod Steps

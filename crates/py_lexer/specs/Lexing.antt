@@ -6,6 +6,7 @@ use Rattle.py_tree.specs.declared.fault.Fault.{Fault}
 use Rattle.py_tree.specs.declared.fault.Stop.{Stop}
 use Rattle.py_tree.specs.declared.fault.Stop.TheVariants as stop
 use Rattle.py_lexer.specs.declared.piece.Piece.{Piece}
+use Rattle.py_lexer.specs.declared.piece.Place.{Place}
 use Rattle.py_lexer.specs.declared.piece.Piece.TheVariants as piece
 use Rattle.py_lexer.specs.declared.token.Token.{Token}
 use Rattle.py_lexer.specs.declared.token.LogicalLine.{LogicalLine}
@@ -57,3 +58,14 @@ abbrev pub IsAnswered : List ℕ → Result (List LogicalLine) Stop → Type 0
 IsAnswered bytes (Ok lines) = (r : Result (List LogicalLine) Fault) → Lexes bytes r → r ≡ Ok lines
 IsAnswered bytes (Err (stop.Fault f)) = (r : Result (List LogicalLine) Fault) → Lexes bytes r → r ≡ Err f
 IsAnswered bytes (Err (stop.Memory e)) = Unit {0}
+
+-- A text has one reading.
+pub record OneReading : Type 0 where
+  -- one list of pieces from each place
+  pub one_list : (p : Place) (s : Text) (ks ls : List Piece) → Pieces p s ks → Pieces p s ls → ks ≡ ls
+  -- or one fault
+  pub one_fault : (p : Place) (s : Text) (f g : Fault) → FaultIn p s f → FaultIn p s g → f ≡ g
+  -- and not both
+  pub not_both : (p : Place) (s : Text) (ks : List Piece) (f : Fault) → Pieces p s ks → FaultIn p s f → ⊥
+  -- so bytes lex to one thing
+  pub one_answer : (bytes : List ℕ) (r s : Result (List LogicalLine) Fault) → Lexes bytes r → Lexes bytes s → r ≡ s

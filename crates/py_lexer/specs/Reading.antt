@@ -17,7 +17,13 @@ use Rattle.py_lexer.specs.declared.token.Token.{Token}
 use Rattle.py_lexer.specs.declared.token.Token.TheVariants as token
 use Rattle.py_tree.specs.declared.code.Code.{Code}
 use Rattle.py_tree.specs.declared.code.Code.TheVariants as code
-use Rattle.py_lexer.specs.Characters.{Text, kind_of, front, behind, after_line_end}
+use Rattle.std.specs.List.{prefix_len}
+use Rattle.py_tree.specs.declared.fault.Fault.{Fault}
+use Rattle.py_lexer.specs.declared.piece.Piece.{Piece}
+use Rattle.py_lexer.specs.declared.piece.Piece.TheVariants as piece
+use Rattle.py_lexer.specs.declared.piece.Place.{Place}
+use Rattle.py_lexer.specs.Characters.{Text, is_blank, is_space, in_comment, kind_of, front, behind, between, after_line_end}
+use Rattle.py_lexer.specs.Pieces.{fault, behind_indentation, behind_line_end, behind_token, depth_behind, line_end_at, on_next_line}
 use Rattle.py_lexer.specs.Integers.{in_number, prefix_base}
 use Rattle.py_lexer.specs.Strings.{is_hexadecimal, escape_of, octal_digits, octal_value, hexadecimal_value}
 use Rattle.py_lexer.specs.Tokens.{named, begins_with_quote, MarkAt, first_mark, marks}
@@ -142,3 +148,48 @@ part_by _ q c s = Some (record { character = Some c; rest = s })
 abbrev pub part_in : Quotes → Text → Option Part
 part_in q [] = None
 part_in q (c ∷ s) = part_by (kind_of c) q c s
+
+-- ---- pieces
+
+-- a piece, and the place and the text behind it
+pub record Step : Type 0 where
+  pub piece : Piece
+  pub place : Place
+  pub rest : Text
+
+abbrev pub step : Piece → Place → Text → Step
+step k q r = record { piece = k; place = q; rest = r }
+
+abbrev pub indentation_step : Place → Text → Step
+indentation_step p s = step (piece.Indentation (prefix_len is_space s) p.line) (behind_indentation p (front is_blank s)) (behind is_blank s)
+
+abbrev pub blanks_step : Place → Text → Step
+blanks_step p s = step piece.Blanks p (behind is_blank s)
+
+abbrev pub comment_step : Place → Text → Step
+comment_step p s = step piece.Comment p (behind in_comment s)
+
+abbrev pub line_end_by : Place → Option Text → Result Step Fault
+line_end_by p None = Err (fault p.line code.BadToken)
+line_end_by p (Some r) = Ok (step (line_end_at p) (behind_line_end p) r)
+
+abbrev pub line_end_step : Place → Text → Result Step Fault
+line_end_step p s = line_end_by p (after_line_end s)
+
+abbrev pub joined_line_by : Place → Option Text → Result Step Fault
+joined_line_by p None = Err (fault p.line code.BadToken)
+joined_line_by p (Some r) = Ok (step piece.JoinedLine (on_next_line p) r)
+
+abbrev pub joined_line_step : Place → Text → Result Step Fault
+joined_line_step p s = joined_line_by p (after_line_end (drop 1 s))
+
+abbrev pub token_step : Place → Token → Text → Text → Step
+token_step p t s r = step (piece.Token t) (behind_token p t (between s r)) r
+
+abbrev pub settled_by : Place → Option ℕ → Token → Text → Text → Result Step Fault
+settled_by p (Some line) t s r = Err (fault line code.TabIndentation)
+settled_by p None t s r = if nat_le (depth_behind p.depth t) 100 then Ok (token_step p t s r) else Err (fault p.line code.TooDeep)
+
+-- a token t that stands from s to r, where one is wanted at the place p
+abbrev pub settled : Place → Token → Text → Text → Result Step Fault
+settled p t s r = settled_by p p.tab t s r

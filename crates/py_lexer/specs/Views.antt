@@ -1,19 +1,27 @@
 -- How values of the code, which hold pointers, are seen. This is no definition of the language.
-use Rattle.std.specs.Prelude.{◌≡◌, ℕ, Bool, true, false, ◌^◌, ◌&&◌, nat_lt, if◌then◌else◌, List, Option, Some, None, Result, Ok, Err}
+use Rattle.std.specs.Str.{IsValidUpTo}
+use Rattle.std.specs.Global.{Vec}
+use Rattle.py_lexer.specs.declared.lex.LineReader.{LineReader}
+use Rattle.py_lexer.specs.declared.token.LogicalLine.{LogicalLine}
+use Rattle.py_lexer.specs.declared.piece.Piece.{Piece}
+use Rattle.py_lexer.specs.Lexing.{line_of, lines_of, tokens_of}
+use Rattle.std.specs.Prelude.{◌≡◌, ◌+◌, ◌++◌, take, chars, IsUtf8, ℕ, Bool, true, false, ◌^◌, ◌&&◌, nat_lt, if◌then◌else◌, List, Option, Some, None, Result, Ok, Err}
 use Rattle.std.specs.Char.{is_digit}
 use Rattle.std.specs.List.{list_all}
 use Rattle.std.specs.Borrow.{Bor}
 use Rattle.py_lexer.specs.declared.token.Mark.{Mark}
 use Rattle.py_lexer.specs.declared.token.Token.{Token}
-use Rattle.py_lexer.specs.Characters.{Text}
+use Rattle.py_lexer.specs.Characters.{Text, line_feeds}
 use Rattle.py_lexer.specs.Tokens.{MarkAt, TokenAt}
-use Rattle.py_lexer.specs.Pieces.{fault, fits}
+use Rattle.py_lexer.specs.Pieces.{fault, fits, start, PieceAt, NoPiece, Pieces, FaultIn}
 use Rattle.py_tree.specs.declared.code.Code.{Code}
 use Rattle.py_tree.specs.declared.code.Code.TheVariants as code
 use Rattle.py_tree.specs.declared.fault.Fault.{Fault}
 use Rattle.py_tree.specs.declared.fault.Stop.{Stop}
 use Rattle.py_tree.specs.declared.fault.Stop.TheVariants as stop
-use Rattle.py_lexer.specs.Reading.{Lexeme, Part}
+use Rattle.py_lexer.specs.declared.piece.Place.{Place}
+use Rattle.py_lexer.specs.declared.piece.Step as code_piece
+use Rattle.py_lexer.specs.Reading.{Lexeme, Part, Step}
 use Rattle.std.specs.declared.alloc.AllocError.{AllocError}
 use Rattle.py_lexer.specs.declared.string_literal.Quotes.{Quotes}
 use Rattle.py_lexer.specs.Strings.{value_from, Opening, Parts}
@@ -46,9 +54,6 @@ IsParts q s (Err e) = Unit {0}
 abbrev pub opening_view : Quotes × Bor Text → Opening
 opening_view x = record { quotes = x.0; rest = x.1.now }
 
-abbrev pub bad_token : ℕ → Stop
-bad_token line = stop.Fault (fault line code.BadToken)
-
 abbrev pub IsStopOn : ℕ → Result Lexeme Code → Stop → Type 0
 IsStopOn line read (stop.Memory e) = Unit {0}
 IsStopOn line read (stop.Fault f) = read ≡ Err f.code × (f.line ≡ line)
@@ -71,3 +76,46 @@ IsNoToken line s (stop.Fault f) = NoToken line s f
 abbrev pub IsTokenAt : ℕ → Text → Result (Token × Bor Text) Stop → Type 0
 IsTokenAt line s (Ok x) = TokenAt s x.1.now x.0 × (fits x.0 ≡ true)
 IsTokenAt line s (Err e) = IsNoToken line s e
+
+abbrev pub step_view : code_piece.Step → Step
+step_view x = record { piece = x.piece; place = x.place; rest = x.rest.now }
+
+abbrev pub IsFault : Result Step Fault → Stop → Type 0
+IsFault read (stop.Memory e) = Unit {0}
+IsFault read (stop.Fault f) = read ≡ Err f
+
+-- what is answered where that is read
+abbrev pub GivesStep : Result Step Fault → Result code_piece.Step Stop → Type 0
+GivesStep read (Ok x) = read ≡ Ok (step_view x)
+GivesStep read (Err e) = IsFault read e
+
+abbrev pub IsNoPiece : Place → Text → Stop → Type 0
+IsNoPiece p s (stop.Memory e) = Unit {0}
+IsNoPiece p s (stop.Fault f) = NoPiece p s f
+
+-- what is answered where a piece is wanted
+abbrev pub IsStep : Place → Text → Result code_piece.Step Stop → Type 0
+IsStep p s (Ok x) = PieceAt p s x.rest.now x.place x.piece
+IsStep p s (Err e) = IsNoPiece p s e
+
+-- what is answered where bytes are to be decoded
+abbrev pub IsBadText : List ℕ → Stop → Type 0
+IsBadText bytes (stop.Memory e) = Unit {0}
+IsBadText bytes (stop.Fault f) = ¬ (IsUtf8 bytes) × ((n : ℕ) × IsValidUpTo bytes n × (f ≡ fault (1 + line_feeds (take n bytes)) code.BadEncoding))
+
+abbrev pub IsDecoded : List ℕ → Result (Vec ℕ) Stop → Type 0
+IsDecoded bytes (Ok characters) = IsUtf8 bytes × (characters.items ≡ chars bytes)
+IsDecoded bytes (Err e) = IsBadText bytes e
+
+abbrev pub IsBadReading : Text → Stop → Type 0
+IsBadReading s (stop.Memory e) = Unit {0}
+IsBadReading s (stop.Fault f) = FaultIn start s f
+
+-- what is answered on a text
+abbrev pub IsRead : Text → Result (List LogicalLine) Stop → Type 0
+IsRead s (Ok lines) = (ks : List Piece) × Pieces start s ks × (lines ≡ lines_of ks)
+IsRead s (Err e) = IsBadReading s e
+
+-- the lines that a reader gives where these pieces follow
+abbrev pub grouped : LineReader → List Piece → List LogicalLine
+grouped reader ks = reader.ended ++ line_of reader.line.indent reader.line.line (reader.line.tokens ++ tokens_of ks) ++ lines_of ks

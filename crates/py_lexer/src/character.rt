@@ -104,8 +104,10 @@ pub(crate) fn comment_len(characters: &[char]) -> usize
 }
 
 /// How many line feeds there are.
+#[tactic(auto, using(crate::proofs::Runs::counted))]
 pub(crate) fn line_feeds(characters: &[char]) -> usize
-    ensures { result ≡ line_feeds characters.now }
+    ensures count { result ≡ line_feeds characters.now }
+    ensures within { result ≤ length characters.now }
 {
     characters.iter().filter(|c| **c == '\n').count()
 }

@@ -10,15 +10,16 @@ ghost use Rattle.py_lexer.specs.Reading.{behind_run, integer_at, kind_at, mark_l
 ghost use Rattle.py_lexer.specs.Integers.{in_number};
 ghost use Rattle.py_lexer.specs.Strings.{opening};
 ghost use Rattle.py_lexer.specs.Tokens.{begins_with_quote, first_mark, marks, named};
-ghost use Rattle.py_lexer.specs.Views.{GivesLexeme, IsTokenAt, bad_token, lexeme_view, opening_view};
+ghost use Rattle.py_lexer.specs.Views.{GivesLexeme, IsTokenAt, lexeme_view, opening_view};
 
 use crate::character::{TokenKind, is_quote};
 use crate::integer_literal::{integer_value, number_len};
+use crate::piece::fault;
 use crate::spelled::{first_mark, keyword_of};
 use crate::string_literal::{Quotes, after_two, quoted};
 use crate::token::Token;
 use py_tree::code::Code;
-use py_tree::fault::{Fault, Stop};
+use py_tree::fault::Stop;
 use py_tree::integer::GREATEST_INT;
 use py_tree::text::Text;
 use std::alloc::{AllocError, Global};
@@ -50,7 +51,7 @@ fn name_at(alloc: Global, line: u32, text: &[char]) -> Result<(Token, &[char]), 
     let (name, rest) = split_name(text);
     match name_token(alloc, name, begins_with_quote(rest)) {
         Ok(Some(token)) => Ok((token, rest)),
-        Ok(None) => Err(bad_token(line)),
+        Ok(None) => Err(fault(line, Code::BadToken)),
         Err(error) => Err(Stop::Memory(error)),
     }
 }
@@ -71,11 +72,8 @@ fn integer_at(line: u32, text: &[char]) -> Result<(Token, &[char]), Stop>
 {
     let (literal, rest) = split_number(text);
     match integer_value(literal) {
-        None => Err(bad_token(line)),
-        Some(value) if value > GREATEST_INT => Err(Stop::Fault(Fault {
-            line,
-            code: Code::IntegerTooLarge,
-        })),
+        None => Err(fault(line, Code::BadToken)),
+        Some(value) if value > GREATEST_INT => Err(fault(line, Code::IntegerTooLarge)),
         Some(value) => Ok((Token::Int(value), rest)),
     }
 }
@@ -88,7 +86,7 @@ fn string_at(alloc: Global, line: u32, text: &[char]) -> Result<(Token, &[char])
     let (quotes, inside) = opening(text[0], &text[1..]);
     match quoted(alloc, quotes, inside) {
         Ok(Some((value, rest))) => Ok((Token::Str(value), rest)),
-        Ok(None) => Err(bad_token(line)),
+        Ok(None) => Err(fault(line, Code::BadToken)),
         Err(error) => Err(Stop::Memory(error)),
     }
 }
@@ -99,18 +97,8 @@ fn mark_at(line: u32, text: &[char]) -> Result<(Token, &[char]), Stop>
 {
     match first_mark(text) {
         Some((mark, rest)) => Ok((Token::Mark(mark), rest)),
-        None => Err(bad_token(line)),
+        None => Err(fault(line, Code::BadToken)),
     }
-}
-
-/// Why there is no token on that line.
-pub(crate) fn bad_token(line: u32) -> Stop
-    ensures { result ≡ bad_token line }
-{
-    Stop::Fault(Fault {
-        line,
-        code: Code::BadToken,
-    })
 }
 
 /// The name at the front, and what is behind it.

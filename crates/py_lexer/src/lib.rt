@@ -5,6 +5,7 @@
 pub mod character;
 pub mod escape;
 mod integer_literal;
+pub mod lex;
 mod lexeme;
 pub mod lines;
 pub mod marker;

@@ -14,4 +14,4 @@ returns-in-Ok-Some c =
 pub returns-in-Ok-None : goal.returns-in-Ok-None
 returns-in-Ok-None c =
     let text = c.args.text.now in
-    subst (IsNoToken c.args.line text) (sym c.bad_token.ensures) (no_string c.args.line text c.index-text-0.result (take (length text - 1) (drop 1 text)) (opening_view c.opening.result) (search rules) (search rules) refl c.opening.ensures (search rules))
+    subst (IsNoToken c.args.line text) (sym c.fault.ensures) (no_string c.args.line text c.index-text-0.result (take (length text - 1) (drop 1 text)) (opening_view c.opening.result) (search rules) (search rules) refl c.opening.ensures (search rules))
