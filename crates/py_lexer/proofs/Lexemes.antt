@@ -1,16 +1,15 @@
 -- The token that is read is the one that stands, and no other.
-use Rattle.std.proofs.Common.{◌≡◌, ℕ, ◌+◌, ◌-◌, ◌≤◌, ◌<◌, min, Bool, true, false, cond, not, List, [], ◌∷◌, take, drop, length, get_or, Option, Some, None, Result, Ok, Err, refl, sym, ap, subst, ◌∙◌, arith}
+use Rattle.std.proofs.Common.{◌≡◌, ℕ, ◌-◌, ◌≤◌, ◌<◌, Bool, true, false, cond, not, List, [], ◌∷◌, take, drop, length, get_or, Option, Some, None, Result, Ok, Err, refl, sym, ap, subst, ◌∙◌, arith}
 use Rattle.std.proofs.Math.Seq.{take-length}
 use Rattle.std.specs.Prelude.{◌||◌, nat_le}
 use Rattle.std.specs.Option.{option_map}
-use Rattle.std.proofs.lemmas.Bool.{le-leb, lt-leb, leb-true, leb-false}
+use Rattle.std.proofs.lemmas.Bool.{le-leb, lt-leb}
 use Rattle.unicode_ident.specs.Ident.{is_xid_continue}
 use Rattle.unicode_normalization.specs.Forms.{is_in_form}
 use Rattle.unicode_normalization.specs.declared.Form.TheVariants.{Nfkc}
 use Rattle.py_tree.specs.Literals.{greatest_int}
 use Rattle.py_tree.specs.declared.code.Code.{Code}
 use Rattle.py_tree.specs.declared.code.Code.TheVariants as code
-use Rattle.py_tree.specs.declared.fault.Fault.{Fault}
 use Rattle.py_tree.specs.declared.fault.Stop.{Stop}
 use Rattle.py_tree.specs.declared.fault.Stop.TheVariants as stop
 use Rattle.py_lexer.specs.declared.string_literal.Quotes.{Quotes}
@@ -18,16 +17,15 @@ use Rattle.py_lexer.specs.declared.token.Keyword.{Keyword}
 use Rattle.std.specs.Borrow.{Bor}
 use Rattle.py_lexer.specs.declared.character.CharKind.{CharKind}
 use Rattle.py_lexer.specs.declared.character.CharKind.TheVariants as kind
-use Rattle.py_lexer.specs.declared.character.TokenKind.{TokenKind}
 use Rattle.py_lexer.specs.declared.character.TokenKind.TheVariants as token_kind
 use Rattle.py_lexer.specs.declared.token.Token.{Token}
 use Rattle.py_lexer.specs.declared.token.Token.TheVariants as token
 use Rattle.py_lexer.specs.Characters.{Text, kind_of, front, behind}
-use Rattle.py_lexer.specs.Integers.{in_number, Integer}
-use Rattle.py_lexer.specs.Strings.{after_closing, onto, Opening, opening, Parts, closing, part}
+use Rattle.py_lexer.specs.Integers.{in_number}
+use Rattle.py_lexer.specs.Strings.{onto, Opening, opening, Parts, closing, part}
 use Rattle.py_lexer.specs.Tokens.{keyword_of, named, named_or, MarkAt, first_mark, marks, begins_with_quote, TokenAt, a_name, an_integer, a_string, a_mark}
 use Rattle.py_lexer.specs.Pieces.{fault, fits}
-use Rattle.py_lexer.specs.Reading.{Lexeme, lexeme, kind_at, run_at, behind_run, name_token, lexeme_or_bad, name_at, mark_lexeme, mark_lexeme_at, sized, integer_in, integer_at, capped, Part, part_in}
+use Rattle.py_lexer.specs.Reading.{Lexeme, lexeme, kind_at, lexeme_or_bad, name_at, mark_lexeme, mark_lexeme_at, sized, integer_in, integer_at, capped, Part}
 use Rattle.py_lexer.specs.Views.{NoToken, none, too_large, GivesLexeme, IsTokenAt}
 use Rattle.py_lexer.proofs.Quoted.{a_part, part_is, same_part}
 use Rattle.py_lexer.proofs.Digits.{integer_is, integer_stands}

@@ -12,3 +12,4 @@ pub mod Lexemes
 pub mod OnePiece
 pub mod Shorter
 pub mod Steps
+pub mod WholeText

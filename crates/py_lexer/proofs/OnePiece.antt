@@ -1,24 +1,19 @@
 -- At each place one piece stands, or one fault is found.
-use Rattle.std.proofs.Common.{◌≡◌, ℕ, ◌+◌, ◌-◌, ◌*◌, ◌≤◌, ◌<◌, Bool, true, false, cond, List, [], ◌∷◌, ◌++◌, take, drop, length, Option, Some, None, Result, Ok, Err, refl, sym, ap, subst, ◌∙◌, arith}
+use Rattle.std.proofs.Common.{◌≡◌, ℕ, ◌≤◌, Bool, true, false, [], drop, Option, Some, None, Ok, refl, sym, ap, ◌∙◌}
 use Rattle.std.specs.Prelude.{nat_le}
 use Rattle.std.proofs.lemmas.Bool.{le-leb, lt-leb}
-use Rattle.py_tree.specs.declared.code.Code.{Code}
 use Rattle.py_tree.specs.declared.code.Code.TheVariants as code
 use Rattle.py_tree.specs.declared.fault.Fault.{Fault}
-use Rattle.py_tree.specs.declared.fault.Stop.{Stop}
-use Rattle.py_tree.specs.declared.fault.Stop.TheVariants as stop
 use Rattle.py_lexer.specs.declared.character.CharKind.{CharKind}
 use Rattle.py_lexer.specs.declared.character.CharKind.TheVariants as kind
 use Rattle.py_lexer.specs.declared.character.TokenKind.{TokenKind}
 use Rattle.py_lexer.specs.declared.token.Token.{Token}
 use Rattle.py_lexer.specs.declared.piece.Piece.{Piece}
 use Rattle.py_lexer.specs.declared.piece.Place.{Place}
-use Rattle.py_lexer.specs.declared.piece.Step as code_piece
-use Rattle.py_lexer.specs.Characters.{Text, kind_of, front, behind, between, after_line_end}
+use Rattle.py_lexer.specs.Characters.{Text, after_line_end}
 use Rattle.py_lexer.specs.Tokens.{TokenAt, a_name, an_integer, a_string, a_mark}
 use Rattle.py_lexer.specs.Pieces.{fault, fits, depth_behind, PieceAt, an_indentation, blanks, a_comment, a_joined_line, a_line_end, a_token, NoPiece, no_token, no_line_end, no_joined_line, too_large, behind_tab, too_deep}
-use Rattle.py_lexer.specs.Reading.{Lexeme, lexeme, kind_at, Step, step, indentation_step, blanks_step, comment_step, line_end_by, line_end_step, joined_line_by, joined_line_step, token_step, settled_by, settled}
-use Rattle.py_lexer.specs.Views.{IsNoToken, NoToken, IsFault, GivesStep, IsNoPiece, IsStep, step_view}
+use Rattle.py_lexer.specs.Reading.{Lexeme, lexeme, kind_at, Step, step, indentation_step, blanks_step, comment_step, line_end_by, line_end_step, joined_line_by, joined_line_step, token_step}
 use Rattle.py_lexer.proofs.Lexemes.{one_token}
 
 -- ---- by what a place begins

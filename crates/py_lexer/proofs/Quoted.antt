@@ -1,9 +1,8 @@
 -- What stands between quotes, part by part.
-use Rattle.std.proofs.Common.{◌≡◌, ℕ, suc, ◌+◌, ◌≤◌, ◌<◌, Bool, true, false, cond, List, [], ◌∷◌, ◌++◌, take, drop, length, Option, Some, None, refl, sym, ap, subst, ◌∙◌, arith}
+use Rattle.std.proofs.Common.{◌≡◌, ℕ, ◌≤◌, ◌<◌, Bool, true, false, cond, List, [], ◌∷◌, ◌++◌, take, drop, length, Option, Some, None, refl, sym, ap, subst, ◌∙◌, arith}
 use Rattle.std.specs.Prelude.{◌==◌, ◌&&◌, nat_le}
 use Rattle.std.specs.Option.{option_map}
 use Rattle.std.specs.List.{list_all}
-use Rattle.std.specs.Char.{IsScalar}
 use Rattle.std.proofs.Math.Utf8.{scalar}
 use Rattle.std.proofs.lemmas.Bool.{le-leb, leb-true}
 use Rattle.std.proofs.lemmas.List.{append_assoc, append-nil, length-drop}
@@ -14,7 +13,7 @@ use Rattle.py_lexer.specs.declared.escape.Escape.TheVariants as escape
 use Rattle.py_lexer.specs.declared.string_literal.Quotes.{Quotes}
 use Rattle.py_lexer.specs.Characters.{Text, kind_of, after_line_end, after_line_feed}
 use Rattle.py_lexer.specs.Strings.{escape_of, octal_digits, octal_value, hexadecimal_value, is_hexadecimal, EscapeAt, joins, a_character, an_octal, a_code_point, after_closing, is_plain, PartAt, plain, escaped, line_end, onto, Parts, closing, part}
-use Rattle.py_lexer.specs.Reading.{Part, nothing, a_line_feed, octal_in, hexadecimal_in, escape_by, escape_in, line_end_in, part_by, part_in}
+use Rattle.py_lexer.specs.Reading.{Part, nothing, a_line_feed, hexadecimal_in, escape_by, escape_in, line_end_in, part_by, part_in}
 
 abbrev pub a_part : Option ℕ → Text → Part
 a_part v r = record { character = v; rest = r }

@@ -1,21 +1,20 @@
 -- A piece isn't empty, and what is behind it is the end of the text.
-use Rattle.std.proofs.Common.{◌≡◌, ℕ, suc, ◌+◌, ◌-◌, ◌*◌, ◌≤◌, ◌<◌, Bool, true, false, cond, List, [], ◌∷◌, take, drop, length, Option, Some, None, refl, sym, ap, subst, ◌∙◌, arith}
-use Rattle.std.specs.Prelude.{◌==◌}
+use Rattle.std.proofs.Common.{◌≡◌, ℕ, ◌≤◌, ◌<◌, Bool, true, false, cond, List, [], ◌∷◌, drop, length, Option, Some, None, refl, ap, arith}
+use Rattle.std.specs.Prelude.{◌==◌, ◌&&◌, nat_lt}
 use Rattle.std.specs.Option.{option_and_then}
-use Rattle.std.specs.List.{prefix_len}
+use Rattle.std.specs.List.{prefix_len, list_all}
 use Rattle.std.proofs.lemmas.List.{length-drop}
-use Rattle.std.proofs.lemmas.List.Sums.{count_by-le-length}
 use Rattle.py_lexer.specs.declared.string_literal.Quotes.{Quotes}
 use Rattle.py_lexer.specs.declared.token.Token.{Token}
 use Rattle.py_lexer.specs.declared.token.Mark.{Mark}
 use Rattle.unicode_ident.specs.Ident.{is_xid_continue}
-use Rattle.py_lexer.specs.Characters.{Text, behind}
+use Rattle.py_lexer.specs.Characters.{Text}
 use Rattle.py_lexer.specs.Integers.{in_number}
-use Rattle.py_lexer.specs.Strings.{Opening, opening, opening_by, after_one, after_two, after_three, after_closing, Parts, closing, part}
+use Rattle.py_lexer.specs.Strings.{opening, opening_by, after_one, after_two, after_three, after_closing, Parts, closing, part}
 use Rattle.py_lexer.specs.Tokens.{MarkAt, after_spelling, mark_or, first_mark, marks, TokenAt, a_name, an_integer, a_string, a_mark}
 use Rattle.py_lexer.proofs.Quoted.{part_shortens}
 
-drops : (n : ℕ) (s : Text) → length (drop n s) ≤ length s
+pub drops : (n : ℕ) (s : Text) → length (drop n s) ≤ length s
 drops n s = omega (arith, length-drop n s)
 
 one_shortens : (mark : ℕ) (s r : Text) → after_one mark s ≡ Some r → length r < length s
@@ -88,8 +87,19 @@ first_shortens (entry ∷ es) s x n e = go entry.0 n.0 (after_spelling entry.0 s
     go [] h (Some r) i e k = absurd (omega arith)
     go (c ∷ spelling) h (Some r) i e k = let same : record { mark = entry.1; rest = r } ≡ x = cc in omega (arith, spelling_shortens c spelling s r i, ap (λ (x : MarkAt). length x.rest) same)
 
+none_empty_test : (es : List (List ℕ × Mark)) → list_all (λ e. nat_lt 0 (length e.0)) es ≡ true → NoneEmpty es
+none_empty_test [] h = tt
+none_empty_test (e ∷ es) h = go (nat_lt 0 (length e.0)) (positive (length e.0)) h (none_empty_test es)
+  where
+    positive : (n : ℕ) → nat_lt 0 n ≡ true → 0 < n
+    positive n h = grind arith
+
+    go : (b : Bool) → (b ≡ true → 0 < length e.0) → (b && list_all (λ e. nat_lt 0 (length e.0)) es) ≡ true → (list_all (λ e. nat_lt 0 (length e.0)) es ≡ true → NoneEmpty es) → NoneEmpty (e ∷ es)
+    go true f h k = (f refl, k h)
+    go false f h k = absurd cc
+
 none_empty : NoneEmpty marks
-none_empty = ?
+none_empty = none_empty_test marks refl
 
 pub token_shortens : {s r : Text} {t : Token} → TokenAt s r t → length r < length s
 token_shortens (a_name {s = s} e n q) = omega (arith, drops (prefix_len is_xid_continue s) s)

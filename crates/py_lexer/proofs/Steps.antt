@@ -1,5 +1,5 @@
 -- The piece that is read at a place is the one that stands there, and where none is read none does.
-use Rattle.std.proofs.Common.{◌≡◌, ℕ, ◌+◌, ◌-◌, ◌≤◌, ◌<◌, Bool, true, false, cond, List, [], ◌∷◌, take, drop, length, Option, Some, None, Result, Ok, Err, refl, sym, ap, subst, ◌∙◌, arith}
+use Rattle.std.proofs.Common.{◌≡◌, ℕ, ◌≤◌, ◌<◌, Bool, true, false, cond, [], ◌∷◌, drop, length, Option, Some, None, Result, Ok, Err, refl, sym, subst, arith}
 use Rattle.std.specs.Prelude.{nat_le}
 use Rattle.std.proofs.lemmas.Bool.{leb-true, leb-false}
 use Rattle.std.proofs.lemmas.List.{length-drop}
@@ -13,11 +13,10 @@ use Rattle.py_lexer.specs.declared.character.TokenKind.{TokenKind}
 use Rattle.py_lexer.specs.declared.token.Token.{Token}
 use Rattle.py_lexer.specs.declared.piece.Place.{Place}
 use Rattle.py_lexer.specs.declared.piece.Step as code_piece
-use Rattle.py_lexer.specs.Characters.{Text, kind_of, front, behind, after_line_end}
-use Rattle.py_lexer.specs.Strings.{Parts, closing, part, after_closing, after_one, after_two, after_three, Opening, opening, opening_by}
-use Rattle.py_lexer.specs.Tokens.{TokenAt, a_name, an_integer, a_string, a_mark, MarkAt, first_mark, mark_or, marks, after_spelling}
+use Rattle.py_lexer.specs.Characters.{Text, after_line_end}
+use Rattle.py_lexer.specs.Tokens.{TokenAt}
 use Rattle.py_lexer.specs.Pieces.{fault, fits, depth_behind, PieceAt, an_indentation, blanks, a_comment, a_joined_line, a_line_end, a_token, NoPiece, no_token, no_line_end, no_joined_line, too_large, behind_tab, too_deep}
-use Rattle.py_lexer.specs.Reading.{kind_at, Step, step, indentation_step, blanks_step, comment_step, line_end_by, line_end_step, joined_line_by, joined_line_step, token_step, settled_by, settled}
+use Rattle.py_lexer.specs.Reading.{kind_at, Step, indentation_step, blanks_step, comment_step, line_end_by, line_end_step, joined_line_by, joined_line_step, token_step, settled_by, settled}
 use Rattle.py_lexer.specs.Views.{IsNoToken, NoToken, IsFault, GivesStep, IsNoPiece, IsStep}
 use Rattle.py_lexer.specs.Views as view
 

@@ -1,6 +1,6 @@
 -- The kinds of characters by which a text is cut into pieces, and line ends (Python reference: lexical analysis, line structure).
 -- A text is the list of its characters. What stands at a place of it is told by the text from there on.
-use Rattle.std.specs.Prelude.{ℕ, ◌-◌, ◌==◌, ◌||◌, ◌&&◌, not, Bool, if◌then◌else◌, List, [], ◌∷◌, take, drop, length, Option, Some, None}
+use Rattle.std.specs.Prelude.{ℕ, ◌-◌, ◌==◌, ◌||◌, not, Bool, if◌then◌else◌, List, [], ◌∷◌, take, drop, length, Option, Some, None}
 use Rattle.std.specs.Char.{is_ascii_digit}
 use Rattle.std.specs.List.{prefix_len, count_by}
 use Rattle.py_lexer.specs.declared.character.CharKind.{CharKind}

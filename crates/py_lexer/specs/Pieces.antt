@@ -1,5 +1,5 @@
 -- The pieces of a text, and where none stands (Python reference: lexical analysis, line structure).
-use Rattle.std.specs.Prelude.{◌≡◌, ℕ, ◌+◌, ◌-◌, ◌≤◌, ◌<◌, ◌==◌, Bool, true, false, if◌then◌else◌, nat_le, List, [], ◌∷◌, Option, Some, None}
+use Rattle.std.specs.Prelude.{◌≡◌, ℕ, ◌+◌, ◌-◌, ◌≤◌, ◌<◌, ◌==◌, Bool, true, false, if◌then◌else◌, nat_le, List, [], ◌∷◌, Some, None}
 use Rattle.std.specs.List.{list_any, prefix_len}
 use Rattle.py_tree.specs.Literals.{greatest_int}
 use Rattle.py_tree.specs.declared.code.Code.{Code}
@@ -58,8 +58,8 @@ fits _ = true
 pub data PieceAt (p : Place) : Text → Text → Place → Piece → Type 0 where
   an_indentation : {c : ℕ} {s : Text} → p.fresh ≡ true
       → PieceAt p (c ∷ s) (behind is_blank (c ∷ s)) (behind_indentation p (front is_blank (c ∷ s))) (piece.Indentation (prefix_len is_space (c ∷ s)) p.line)
-  blanks : {c : ℕ} {s : Text} → p.fresh ≡ false → kind_of c ≡ kind.Blank → PieceAt p (c ∷ s) (behind is_blank (c ∷ s)) p piece.Blanks
-  a_comment : {c : ℕ} {s : Text} → p.fresh ≡ false → kind_of c ≡ kind.Hash → PieceAt p (c ∷ s) (behind in_comment (c ∷ s)) p piece.Comment
+  blanks : {c : ℕ} {s : Text} → p.fresh ≡ false → kind_of c ≡ kind.Blank → PieceAt p (c ∷ s) (behind is_blank s) p piece.Blanks
+  a_comment : {c : ℕ} {s : Text} → p.fresh ≡ false → kind_of c ≡ kind.Hash → PieceAt p (c ∷ s) (behind in_comment s) p piece.Comment
   a_joined_line : {c : ℕ} {s r : Text} → p.fresh ≡ false → kind_of c ≡ kind.Backslash → after_line_end s ≡ Some r → PieceAt p (c ∷ s) r (on_next_line p) piece.JoinedLine
   a_line_end : {c : ℕ} {s r : Text} → p.fresh ≡ false → kind_of c ≡ kind.LineEnd → after_line_end (c ∷ s) ≡ Some r → PieceAt p (c ∷ s) r (behind_line_end p) (line_end_at p)
   a_token : {s r : Text} {t : Token} → p.fresh ≡ false → TokenAt s r t → fits t ≡ true → p.tab ≡ None → depth_behind p.depth t ≤ 100

@@ -1,5 +1,5 @@
 -- What stands at the front of a text, as functions, by which the code is proved. This is no definition of the language.
-use Rattle.std.specs.Prelude.{ℕ, ◌+◌, ◌*◌, ◌==◌, ◌&&◌, ◌||◌, ◌<◌, nat_le, nat_lt, not, min, Bool, true, false, if◌then◌else◌, List, [], ◌∷◌, take, drop, length, Option, Some, None, Result, Ok, Err}
+use Rattle.std.specs.Prelude.{ℕ, ◌+◌, ◌*◌, ◌==◌, ◌&&◌, ◌||◌, nat_le, nat_lt, not, min, Bool, true, false, if◌then◌else◌, List, [], ◌∷◌, take, drop, length, Option, Some, None, Result, Ok, Err}
 use Rattle.std.specs.Char.{digit_value}
 use Rattle.std.proofs.Math.Utf8.{scalar}
 use Rattle.std.specs.List.{list_all}
@@ -164,10 +164,10 @@ abbrev pub indentation_step : Place → Text → Step
 indentation_step p s = step (piece.Indentation (prefix_len is_space s) p.line) (behind_indentation p (front is_blank s)) (behind is_blank s)
 
 abbrev pub blanks_step : Place → Text → Step
-blanks_step p s = step piece.Blanks p (behind is_blank s)
+blanks_step p s = step piece.Blanks p (behind is_blank (drop 1 s))
 
 abbrev pub comment_step : Place → Text → Step
-comment_step p s = step piece.Comment p (behind in_comment s)
+comment_step p s = step piece.Comment p (behind in_comment (drop 1 s))
 
 abbrev pub line_end_by : Place → Option Text → Result Step Fault
 line_end_by p None = Err (fault p.line code.BadToken)

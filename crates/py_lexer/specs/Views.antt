@@ -5,7 +5,7 @@ use Rattle.py_lexer.specs.declared.lex.LineReader.{LineReader}
 use Rattle.py_lexer.specs.declared.token.LogicalLine.{LogicalLine}
 use Rattle.py_lexer.specs.declared.piece.Piece.{Piece}
 use Rattle.py_lexer.specs.Lexing.{line_of, lines_of, tokens_of}
-use Rattle.std.specs.Prelude.{◌≡◌, ◌+◌, ◌++◌, take, chars, IsUtf8, ℕ, Bool, true, false, ◌^◌, ◌&&◌, nat_lt, if◌then◌else◌, List, Option, Some, None, Result, Ok, Err}
+use Rattle.std.specs.Prelude.{◌≡◌, ◌+◌, ◌++◌, take, chars, IsUtf8, ℕ, true, false, ◌^◌, ◌&&◌, nat_lt, if◌then◌else◌, List, Option, Some, None, Result, Ok, Err}
 use Rattle.std.specs.Char.{is_digit}
 use Rattle.std.specs.List.{list_all}
 use Rattle.std.specs.Borrow.{Bor}

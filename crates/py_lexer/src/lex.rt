@@ -1,9 +1,8 @@
-ghost use Rattle.std.specs.Prelude.{◌≡◌, ◌≤◌, ◌<◌, ◌+◌, ◌^◌, ◌++◌, ◌∷◌, [], List, OnOk, IfOk, length};
+ghost use Rattle.std.specs.Prelude.{◌≡◌, ◌≤◌, ◌<◌, ◌+◌, ◌^◌, ◌++◌, ◌∷◌, [], List, OnOk, IfOk, chars, length};
 ghost use Rattle.py_lexer.specs.declared.piece.Piece.{Piece};
 ghost use Rattle.py_lexer.specs.Characters.{line_feeds};
 ghost use Rattle.py_lexer.specs.Lexing.{IsAnswered, IsSo, OneReading, line_of, lines_of, without_mark};
 ghost use Rattle.py_lexer.specs.Views.{IsDecoded, IsRead, grouped};
-
 
 use crate::piece::{Piece, Place, fault, next_piece};
 use crate::token::{LogicalLine, LogicalLines};
@@ -38,13 +37,13 @@ pub fn one_reading()
     ensures { OneReading }
 {}
 
-/// The characters of a text.
+/// The characters of a text, or the fault of its first byte that isn't UTF-8.
 fn decode(alloc: Global, text: &[u8]) -> Result<Vec<char>, Stop>
     requires { length text.now ≤ 1048576 }
     ensures { IsDecoded text.now result }
 {
     match str::from_utf8(text) {
-        Ok(text) => match text.chars().collect(alloc) {
+        Ok(text) => match characters_of(alloc, text) {
             Ok(characters) => Ok(characters),
             Err(error) => Err(Stop::Memory(error)),
         },
@@ -53,6 +52,14 @@ fn decode(alloc: Global, text: &[u8]) -> Result<Vec<char>, Stop>
             Err(fault(line, Code::BadEncoding))
         }
     }
+}
+
+/// The characters of a string.
+#[tactic(auto, using(std::proofs::lemmas::Str::chars_from_encodes))]
+fn characters_of(alloc: Global, text: &str) -> Result<Vec<char>, AllocError>
+    ensures { IfOk result (λ characters. characters.items ≡ chars text.now) }
+{
+    Ok(text.chars().collect(alloc)?)
 }
 
 /// How many line feeds there are.

@@ -6,8 +6,9 @@ ghost use Rattle.py_lexer.specs.Pieces.{fault, behind_indentation, behind_line_e
 ghost use Rattle.py_lexer.specs.Reading.{blanks_step, comment_step, indentation_step, joined_line_step, kind_at, line_end_step, settled};
 ghost use Rattle.py_lexer.specs.Views.{GivesStep, IsStep, step_view};
 
-use crate::character::{CharKind, TokenKind};
-use crate::character::{after_line_end, blanks_len, comment_len, line_feeds, spaces_len};
+use crate::character::{
+    CharKind, TokenKind, after_line_end, blanks_len, comment_len, line_feeds, spaces_len,
+};
 use crate::lexeme::token_at;
 use crate::token::{Mark, Token};
 use py_tree::code::Code;
@@ -107,23 +108,27 @@ fn has_tab(characters: &[char]) -> bool
 
 /// Blanks between tokens.
 fn blanks(place: Place, text: &[char]) -> Step<'_>
+    requires { 0 < length text.now }
     ensures { step_view result ≡ blanks_step place text.now }
 {
+    let others = &text[1..];
     Step {
         piece: Piece::Blanks,
         place,
-        rest: &text[blanks_len(text)..],
+        rest: &others[blanks_len(others)..],
     }
 }
 
 /// A comment.
 fn comment(place: Place, text: &[char]) -> Step<'_>
+    requires { 0 < length text.now }
     ensures { step_view result ≡ comment_step place text.now }
 {
+    let others = &text[1..];
     Step {
         piece: Piece::Comment,
         place,
-        rest: &text[comment_len(text)..],
+        rest: &others[comment_len(others)..],
     }
 }
 
@@ -174,12 +179,7 @@ fn joined_line(place: Place, text: &[char]) -> Result<Step<'_>, Stop>
 }
 
 /// A token.
-fn token(
-    alloc: Global,
-    starts: TokenKind,
-    place: Place,
-    text: &[char],
-) -> Result<Step<'_>, Stop>
+fn token(alloc: Global, starts: TokenKind, place: Place, text: &[char]) -> Result<Step<'_>, Stop>
     requires kind { kind_at text.now ≡ Some (kind.Token starts) }
     requires fresh { place.fresh ≡ false }
     requires line { place.line + length text.now < 2 ^ 32 }

@@ -1,5 +1,5 @@
 -- What stands between the quotes is read, or nothing stands there.
-use Rattle.std.proofs.Common.{rules, sym, subst, refl, true, ◌≡◌, length, ◌-◌, take, drop}
+use Rattle.std.proofs.Common.{rules, sym, subst, refl, length, ◌-◌, take, drop}
 use Rattle.py_lexer.specs.Strings.{Parts}
 use Rattle.py_lexer.specs.Views.{IsNoToken, opening_view}
 use Rattle.py_lexer.proofs.Lexemes.{string_stands, no_string}

@@ -1,5 +1,5 @@
 -- A token that stands is settled, and where none stands none is a piece.
-use Rattle.std.proofs.Common.{rules, ◌≡◌, ◌<◌, true, length, arith}
+use Rattle.std.proofs.Common.{rules, ◌≡◌, true, arith}
 use Rattle.py_lexer.specs.Tokens.{TokenAt}
 use Rattle.py_lexer.specs.Pieces.{fits}
 use Rattle.py_lexer.specs.Reading.{settled}
@@ -17,7 +17,7 @@ pub returns-in-Ok : goal.returns-in-Ok
 returns-in-Ok c =
     let stands : TokenAt c.args.text.now c.in-Ok.rest.now c.in-Ok.token × (fits c.in-Ok.token ≡ true) = search rules in
     gives_step c.args.place c.args.text.now (settled c.args.place c.in-Ok.token c.args.text.now c.in-Ok.rest.now) c.settled.result c.settled.ensures
-      (right_settled c.args.place c.args.text.now c.in-Ok.rest.now c.in-Ok.token c.requires.fresh stands.0 stands.1)
+    (right_settled c.args.place c.args.text.now c.in-Ok.rest.now c.in-Ok.token c.requires.fresh stands.0 stands.1)
 
 pub returns-in-Err : goal.returns-in-Err
 returns-in-Err c =

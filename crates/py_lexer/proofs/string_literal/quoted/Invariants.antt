@@ -1,4 +1,4 @@
-use Rattle.std.proofs.Common.{◌≡◌, length}
+use Rattle.std.proofs.Common.{length}
 use Rattle.py_lexer.proofs.Quoted.{ReadSoFar}
 use Rattle.py_lexer.proofs.string_literal.quoted.Given as goal
 
