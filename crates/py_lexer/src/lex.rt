@@ -179,3 +179,6 @@ fn push_line(lines: &mut LogicalLines, line: LogicalLine) -> Result<(), AllocErr
     }
     lines.push(line)
 }
+
+#[cfg(test)]
+mod tests;

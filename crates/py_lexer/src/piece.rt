@@ -141,6 +141,7 @@ fn line_end(place: Place, text: &[char]) -> Result<Step<'_>, Stop>
         return Err(fault(place.line, Code::BadToken));
     };
     let ends = place.depth == 0;
+    let next_line = place.line + 1;
     Ok(Step {
         piece: if ends {
             Piece::LineEnd
@@ -151,7 +152,7 @@ fn line_end(place: Place, text: &[char]) -> Result<Step<'_>, Stop>
             fresh: ends,
             depth: place.depth,
             tab: place.tab,
-            line: place.line + 1,
+            line: next_line,
         },
         rest,
     })
