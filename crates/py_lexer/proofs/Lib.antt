@@ -13,3 +13,4 @@ pub mod OnePiece
 pub mod Shorter
 pub mod Steps
 pub mod WholeText
+pub mod Covered

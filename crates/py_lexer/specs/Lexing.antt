@@ -1,5 +1,5 @@
 -- What a text lexes to: its logical lines, or the first fault in it.
-use Rattle.std.specs.Prelude.{◌≡◌, ℕ, ◌+◌, ◌≤◌, ◌<◌, ◌==◌, if◌then◌else◌, List, [], ◌∷◌, ◌++◌, take, length, chars, IsUtf8, Result, Ok, Err}
+use Rattle.std.specs.Prelude.{◌≡◌, ℕ, ◌+◌, ◌≤◌, ◌<◌, ◌==◌, if◌then◌else◌, List, [], ◌∷◌, ◌++◌, take, length, chars, IsUtf8, Result, Ok, Err, map}
 use Rattle.std.specs.Str.{IsValidUpTo}
 use Rattle.py_tree.specs.declared.code.Code.TheVariants as code
 use Rattle.py_tree.specs.declared.fault.Fault.{Fault}
@@ -11,7 +11,9 @@ use Rattle.py_lexer.specs.declared.piece.Piece.TheVariants as piece
 use Rattle.py_lexer.specs.declared.token.Token.{Token}
 use Rattle.py_lexer.specs.declared.token.LogicalLine.{LogicalLine}
 use Rattle.py_lexer.specs.Characters.{Text, line_feeds}
-use Rattle.py_lexer.specs.Pieces.{start, fault, Pieces, FaultIn}
+use Rattle.py_lexer.specs.Names as names
+use Rattle.py_lexer.specs.Tokens as tokens
+use Rattle.py_lexer.specs.Pieces.{start, fault, PieceAt, Pieces, FaultIn}
 
 -- the tokens of a logical line: those before the next indentation
 abbrev pub tokens_of : List Piece → List Token
@@ -59,9 +61,15 @@ IsAnswered bytes (Ok lines) = (r : Result (List LogicalLine) Fault) → Lexes by
 IsAnswered bytes (Err (stop.Fault f)) = (r : Result (List LogicalLine) Fault) → Lexes bytes r → r ≡ Err f
 IsAnswered bytes (Err (stop.Memory e)) = Unit {0}
 
+-- what stands at the front of s, and then r, is s
+abbrev pub IsFront : Text → Text → Type 0
+IsFront s r = (cs : List ℕ) × (s ≡ cs ++ r)
+
 -- A text has one reading.
 pub record OneReading : Type 0 where
-  -- one list of pieces from each place
+  -- pieces stand one behind another: each is a front of what is left
+  pub fronts : (p q : Place) (s r : Text) (k : Piece) → PieceAt p s r q k → IsFront s r
+  -- one list of them from each place
   pub one_list : (p : Place) (s : Text) (ks ls : List Piece) → Pieces p s ks → Pieces p s ls → ks ≡ ls
   -- or one fault
   pub one_fault : (p : Place) (s : Text) (f g : Fault) → FaultIn p s f → FaultIn p s g → f ≡ g
@@ -69,3 +77,7 @@ pub record OneReading : Type 0 where
   pub not_both : (p : Place) (s : Text) (ks : List Piece) (f : Fault) → Pieces p s ks → FaultIn p s f → ⊥
   -- so bytes lex to one thing
   pub one_answer : (bytes : List ℕ) (r s : Result (List LogicalLine) Fault) → Lexes bytes r → Lexes bytes s → r ≡ s
+
+-- The keywords among the names of modules and those among tokens are the same.
+abbrev pub SameKeywords : Type 0
+SameKeywords = map (λ row. row.0) tokens.keywords ≡ names.keywords

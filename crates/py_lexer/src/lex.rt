@@ -1,7 +1,7 @@
 ghost use Rattle.std.specs.Prelude.{◌≡◌, ◌≤◌, ◌<◌, ◌+◌, ◌^◌, ◌++◌, ◌∷◌, [], List, OnOk, IfOk, chars, length};
 ghost use Rattle.py_lexer.specs.declared.piece.Piece.{Piece};
 ghost use Rattle.py_lexer.specs.Characters.{line_feeds};
-ghost use Rattle.py_lexer.specs.Lexing.{IsAnswered, IsSo, OneReading, line_of, lines_of, without_mark};
+ghost use Rattle.py_lexer.specs.Lexing.{IsAnswered, IsSo, OneReading, SameKeywords, line_of, lines_of, without_mark};
 ghost use Rattle.py_lexer.specs.Views.{IsDecoded, IsRead, grouped};
 
 use crate::piece::{Piece, Place, fault, next_piece};
@@ -35,6 +35,11 @@ pub fn lex(alloc: Global, text: &[u8]) -> Result<LogicalLines, Stop>
 /// A text has one reading.
 pub fn one_reading()
     ensures { OneReading }
+{}
+
+/// A name is a keyword, as far as modules' names go, exactly where its token is one.
+pub fn same_keywords()
+    ensures { SameKeywords }
 {}
 
 /// The characters of a text, or the fault of its first byte that isn't UTF-8.
