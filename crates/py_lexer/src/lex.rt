@@ -26,10 +26,8 @@ pub fn lex(alloc: Global, text: &[u8]) -> Result<LogicalLines, Stop>
     if text.len() > GREATEST_SIZE {
         return Err(fault(1, Code::FileTooLarge));
     }
-    match decode(alloc, text) {
-        Ok(characters) => read(alloc, without_mark(&characters)),
-        Err(stop) => Err(stop),
-    }
+    let characters = decode(alloc, text)?;
+    read(alloc, without_mark(&characters))
 }
 
 /// A text has one reading.
@@ -100,15 +98,11 @@ fn read(alloc: Global, text: &[char]) -> Result<LogicalLines, Stop>
     };
     let mut rest = text;
     while !rest.is_empty() {
-        match next_piece(alloc, place, rest) {
-            Ok(step) => {
-                place = step.place;
-                rest = step.rest;
-                if let Err(error) = reader.put(alloc, step.piece) {
-                    return Err(Stop::Memory(error));
-                }
-            }
-            Err(stop) => return Err(stop),
+        let step = next_piece(alloc, place, rest)?;
+        place = step.place;
+        rest = step.rest;
+        if let Err(error) = reader.put(alloc, step.piece) {
+            return Err(Stop::Memory(error));
         }
     }
     match reader.finish() {

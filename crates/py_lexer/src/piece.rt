@@ -187,10 +187,8 @@ fn token(alloc: Global, starts: TokenKind, place: Place, text: &[char]) -> Resul
     requires depth { place.depth ≤ 100 }
     ensures { IsStep place text.now result }
 {
-    match token_at(alloc, starts, place.line, text) {
-        Ok((token, rest)) => settled(place, token, text, rest),
-        Err(stop) => Err(stop),
-    }
+    let (token, rest) = token_at(alloc, starts, place.line, text)?;
+    settled(place, token, text, rest)
 }
 
 /// A token that has been read, where one may stand: behind no tab and not too deep.
