@@ -1,0 +1,4 @@
+pub mod Graph
+pub mod Closure
+pub mod Needs
+pub mod World
