@@ -14,3 +14,13 @@ pub record IsNeed (count : ℕ) (direct need : ℕ → List ℕ) (is_cyclic : �
 -- of the graph of these rows
 abbrev pub HasNeeds : Rows → Type 0
 HasNeeds rows = IsNeed (count rows) (direct_of rows) (need_of rows) (is_cyclic rows)
+
+-- m is cyclic, or its direct imports are decided
+abbrev pub IsReady : (direct : ℕ → List ℕ) (is_cyclic is_decided : ℕ → Bool) → ℕ → Type 0
+IsReady direct is_cyclic is_decided m = is_cyclic m ≡ false → (d : ℕ) → has d (direct m) ≡ true → is_decided d ≡ true
+
+-- where this is so of all that is decided, and of m, the need of m is decided
+abbrev pub DecidesNeeds : (direct need : ℕ → List ℕ) (is_cyclic : ℕ → Bool) → Type 0
+DecidesNeeds direct need is_cyclic =
+    (is_decided : ℕ → Bool) → ((m : ℕ) → is_decided m ≡ true → IsReady direct is_cyclic is_decided m)
+    → (m : ℕ) → IsReady direct is_cyclic is_decided m → (n : ℕ) → has n (need m) ≡ true → is_decided n ≡ true

@@ -1,4 +1,5 @@
 //! The import graph of a folder's modules: what each names, reaches and needs, which are cyclic, and that one assignment of verdicts fits them all.
 #![tactic(auto)]
 
+pub mod laws;
 pub mod rows;
