@@ -5,3 +5,4 @@ pub mod Cuts
 pub mod NeedLaws
 pub mod ByChains
 pub mod Worlds
+pub mod Bits

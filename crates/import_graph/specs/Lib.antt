@@ -2,3 +2,4 @@ pub mod Graph
 pub mod Closure
 pub mod Needs
 pub mod World
+pub mod Sets
