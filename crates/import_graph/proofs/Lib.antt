@@ -6,3 +6,4 @@ pub mod NeedLaws
 pub mod ByChains
 pub mod Worlds
 pub mod Bits
+pub mod Tables

@@ -2,5 +2,6 @@
 #![tactic(auto)]
 
 pub mod laws;
+mod reach;
 pub mod rows;
 mod sets;

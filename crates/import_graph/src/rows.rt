@@ -1,7 +1,7 @@
 use lists::Items;
 
 /// An import that names a module of the folder.
-#[derive(Drop)]
+#[derive(Clone, Copy, Drop)]
 pub struct DirectImport {
     /// The physical line, from 1, of the import statement.
     pub line: u32,
