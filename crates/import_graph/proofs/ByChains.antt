@@ -14,7 +14,7 @@ use Rattle.import_graph.proofs.Listed.{those_list}
 use Rattle.import_graph.proofs.Cuts.{length-cut, cut_needs, needs_cut, meets_chain}
 
 -- all imports of a row name modules
-row_all : (count : ℕ) (rows : Rows) (m : ℕ) → list_all (list_all (λ i. nat_lt i.module count)) rows ≡ true → list_all (λ (i : DirectImport). nat_lt i.module count) (row_of rows m) ≡ true
+pub row_all : (count : ℕ) (rows : Rows) (m : ℕ) → list_all (list_all (λ i. nat_lt i.module count)) rows ≡ true → list_all (λ (i : DirectImport). nat_lt i.module count) (row_of rows m) ≡ true
 row_all count [] m h = refl
 row_all count (row ∷ rest) zero h = and_left (list_all (λ i. nat_lt i.module count) row) _ h
 row_all count (row ∷ rest) (suc m) h = row_all count rest m (and_right (list_all (λ i. nat_lt i.module count) row) (list_all (list_all (λ i. nat_lt i.module count)) rest) h)

@@ -7,3 +7,4 @@ pub mod ByChains
 pub mod Worlds
 pub mod Bits
 pub mod Tables
+pub mod RowFacts

@@ -3,3 +3,4 @@ pub mod Closure
 pub mod Needs
 pub mod World
 pub mod Sets
+pub mod Built

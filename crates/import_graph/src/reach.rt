@@ -1,11 +1,12 @@
-ghost use Rattle.std.specs.Prelude.{◌≡◌, ◌||◌, ◌&&◌, ◌==◌, ◌<◌, ◌/◌, ℕ, [], true, IfOk, length, nat_lt, slice_index_or};
+ghost use Rattle.std.specs.Prelude.{◌≡◌, ◌||◌, ◌&&◌, ◌==◌, ◌<◌, ◌/◌, ◌≤◌, ℕ, [], Bool, true, IfOk, length, nat_lt, slice_index_or};
 ghost use Rattle.std.specs.List.{list_all, list_any};
 ghost use Rattle.import_graph.specs.Graph.{is_graph, imports};
-ghost use Rattle.import_graph.specs.Closure.{reaches};
+ghost use Rattle.import_graph.specs.Closure.{reaches, those};
 ghost use Rattle.import_graph.specs.Sets.{is_in, words_for, IsTable, IsPassedOn};
 
 use crate::rows::{DirectImport, GraphRows};
 use crate::sets::NumberSet;
+use lists::Items;
 use std::alloc::{AllocError, Global};
 
 /// For each module the set of those that it reaches.
@@ -25,7 +26,7 @@ pub(crate) fn reach_table(
 }
 
 /// For each module the set of those that it imports.
-fn import_table(alloc: Global, rows: &GraphRows) -> Result<Vec<NumberSet>, AllocError>
+pub(crate) fn import_table(alloc: Global, rows: &GraphRows) -> Result<Vec<NumberSet>, AllocError>
     requires { is_graph rows.now ≡ true }
     ensures { IfOk result (λ table. IsTable (imports rows.now) (length rows.now) table.items) }
 {
@@ -36,8 +37,22 @@ fn import_table(alloc: Global, rows: &GraphRows) -> Result<Vec<NumberSet>, Alloc
     Ok(table)
 }
 
+/// The numbers of the set of a module, ascending.
+pub(crate) fn listed(
+    alloc: Global,
+    table: &[NumberSet],
+    module: usize,
+) -> Result<Items<u32>, AllocError>
+    requires few { length table.now ≤ 4294967295 }
+    requires within { «module» < length table.now }
+    requires room { length (slice_index_or table.now «module» []) ≡ words_for (length table.now) }
+    ensures { (test : ℕ → ℕ → Bool) → IsTable test (length table.now) table.now → IfOk result (λ made. made ≡ those (test «module») (length table.now)) }
+{
+    table[module].numbers(alloc, table.len() as u32)
+}
+
 /// The set of the modules that a row names.
-pub(crate) fn imported(
+fn imported(
     alloc: Global,
     row: &[DirectImport],
     bound: usize,
