@@ -1,5 +1,5 @@
 -- Sets of numbers as the bits of words.
-use Rattle.std.proofs.Common.{◌≡◌, ◌≢◌, ◌==◌, ◌⊎◌, ◌↔◌, ℕ, zero, suc, ◌<◌, ◌≤◌, ◌+◌, ◌*◌, ◌/◌, ◌%◌, ◌^◌, ◌||◌, Bool, true, false, cond, List, [], ◌∷◌, length, max, get_or, bit_or, w64, refl, sym, ap, ◌∙◌, subst, ⊎_elim, inl, inr, arith, replicate}
+use Rattle.std.proofs.Common.{◌≡◌, ◌≢◌, ◌==◌, ◌⊎◌, ℕ, zero, suc, ◌<◌, ◌≤◌, ◌*◌, ◌/◌, ◌%◌, ◌^◌, ◌||◌, Bool, true, false, List, length, max, get_or, bit_or, w64, refl, sym, ap, ◌∙◌, subst, ⊎_elim, inl, inr, arith, replicate}
 use Rattle.std.specs.Prelude.{slice_set, slice_index}
 use Rattle.std.specs.Int.{bit_at}
 use Rattle.std.proofs.lemmas.Bool.Decides.{nat_tests}
@@ -20,8 +20,10 @@ inserted_other words k n w within old differ = by (cases n k differ)
   where
     x : ℕ
     x = bit_or w (1 * 2 ^ (k % 64) % 18446744073709551616)
+
     cases : (n k : ℕ) → n ≢ k → (n / 64 ≢ k / 64) ⊎ ((n / 64 ≡ k / 64) × (n % 64 ≢ k % 64))
     cases n k h = grind arith
+
     by : (n / 64 ≢ k / 64) ⊎ ((n / 64 ≡ k / 64) × (n % 64 ≢ k % 64)) → is_in (slice_set words (k / 64) x) n ≡ is_in words n
     by (inl other) = ap (λ y. bit_at y (n % 64) == 1) (get_or-set_other words (k / 64) (n / 64) x 0 other)
     by (inr same) =
@@ -35,8 +37,10 @@ inserted words k n w within old = by (k == n) refl
   where
     same : (k == n) ≡ true → k ≡ n
     same h = grind (arith, nat_tests)
+
     differ : (k == n) ≡ false → n ≢ k
     differ h = grind (arith, nat_tests)
+
     by : (b : Bool) → (k == n) ≡ b → is_in (slice_set words (k / 64) (bit_or w (1 * 2 ^ (k % 64) % 18446744073709551616))) n ≡ b || is_in words n
     by true e = subst (λ (m : ℕ). is_in (slice_set words (k / 64) (bit_or w (1 * 2 ^ (k % 64) % 18446744073709551616))) m ≡ true) (same e) (inserted_itself words k w within)
     by false e = inserted_other words k n w within old (differ e)
@@ -62,8 +66,10 @@ joined_below words other new at same end done left n = joined words other new ea
   where
     below_or_past : (i at : ℕ) → (i < at) ⊎ (at ≤ i)
     below_or_past i at = grind arith
+
     cc_or : (a b : ℕ) → a ≡ 0 → b ≡ 0 → bit_or a b ≡ 0
     cc_or a b e f = cc
+
     each : (i : ℕ) → get_or new i 0 ≡ bit_or (get_or words i 0) (get_or other i 0)
     each i = ⊎_elim (λ (a : i < at). done i a)
         (λ (b : at ≤ i). left i b ∙ past_end words i (omega arith) ∙ sym (cc_or (get_or words i 0) (get_or other i 0) (past_end words i (omega arith)) (past_end other i (omega arith))))

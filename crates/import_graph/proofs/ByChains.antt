@@ -1,13 +1,12 @@
 -- The lists of a graph, and the line of a cyclic module, by chains.
-use Rattle.std.proofs.Common.{◌≡◌, ◌==◌, ◌⊎◌, ◌↔◌, ℕ, zero, suc, ◌<◌, Bool, true, false, cond, List, [], ◌∷◌, length, Option, Some, None, MatchOption, nat_lt, refl, sym, ap, ◌∙◌, subst, ⊎_elim, inl, inr, arith}
-use Rattle.std.specs.Prelude.{slice_index_or}
+use Rattle.std.proofs.Common.{◌≡◌, ◌==◌, ◌⊎◌, ◌↔◌, ℕ, zero, suc, ◌<◌, Bool, true, false, cond, List, [], ◌∷◌, length, Option, Some, None, MatchOption, nat_lt, refl, sym, subst, ⊎_elim, inl, inr, arith}
 use Rattle.std.specs.List.{list_all, list_any}
 use Rattle.std.proofs.lemmas.Bool.Decides.{nat_tests}
 use Rattle.import_graph.specs.declared.rows.DirectImport.{DirectImport}
-use Rattle.import_graph.specs.Graph.{Rows, row_of, is_graph, imports, Reaches, IsCyclic, Needs, LeadsBackAt, IsListOf, has}
+use Rattle.import_graph.specs.Graph.{Rows, row_of, is_graph, imports, Reaches, IsCyclic, Needs, LeadsBackAt, IsListOf}
 use Rattle.import_graph.specs.Graph.Reaches.{one_import, first_import}
 use Rattle.import_graph.specs.Graph.LeadsBackAt.{this_import, later_import}
-use Rattle.import_graph.specs.Closure.{reaches, cut, direct_of, reached_of, need_of, those, line_back, cyclic_line}
+use Rattle.import_graph.specs.Closure.{reaches, cut, direct_of, reached_of, need_of, line_back, cyclic_line}
 use Rattle.import_graph.proofs.Bools.{and_left, and_right, or_cases, or_left, or_right, not_both}
 use Rattle.import_graph.proofs.Chains.{reaches_chain, chain_reaches}
 use Rattle.import_graph.proofs.Listed.{those_list}
@@ -49,7 +48,7 @@ pub need_list : (rows : Rows) → is_graph rows ≡ true → (m : ℕ) → IsLis
 unfolding need_of reached_of
 need_list rows all m =
     those_list (reaches (cut rows) m) (length (cut rows)) (Needs rows m) (λ n h. cut_needs rows m n (reaches_chain (cut rows) m n h))
-        (λ n h. (subst (λ (c : ℕ). n < c) (sym (length-cut rows)) (reach_within rows all m n (meets_chain rows m n h.meets)), chain_reaches (cut rows) m n (needs_cut rows m n h)))
+    (λ n h. (subst (λ (c : ℕ). n < c) (sym (length-cut rows)) (reach_within rows all m n (meets_chain rows m n h.meets)), chain_reaches (cut rows) m n (needs_cut rows m n h)))
 
 -- the line of a row's first import that leads back, if one does
 pub line_back_is : (rows : Rows) (m : ℕ) (row : List DirectImport)
@@ -59,8 +58,10 @@ line_back_is rows m (i ∷ rest) = by (reaches rows i.module m) refl (line_back 
   where
     itself : (k : ℕ) → (k == k) ≡ true
     itself k = grind (arith, nat_tests)
+
     same : (j k : ℕ) → (j == k) ≡ true → j ≡ k
     same j k h = grind (arith, nat_tests)
+
     later : (o : Option ℕ) → ¬ Reaches rows i.module m
         → MatchOption o ((k : ℕ) → list_any (λ i. i.module == k) rest ≡ true → ¬ Reaches rows k m) (λ line. LeadsBackAt rows m rest line × ((k : ℕ) × (list_any (λ i. i.module == k) rest ≡ true) × Reaches rows k m))
         → MatchOption o ((k : ℕ) → list_any (λ i. i.module == k) (i ∷ rest) ≡ true → ¬ Reaches rows k m) (λ line. LeadsBackAt rows m (i ∷ rest) line × ((k : ℕ) × (list_any (λ i. i.module == k) (i ∷ rest) ≡ true) × Reaches rows k m))
@@ -69,6 +70,7 @@ line_back_is rows m (i ∷ rest) = by (reaches rows i.module m) refl (line_back 
         (λ (b : list_any (λ i. i.module == k) rest ≡ true). h k b back)
         (or_cases (i.module == k) (list_any (λ i. i.module == k) rest) named)
     later (Some line) away h = (later_import i rest line away h.0, (h.1.0, or_right (i.module == h.1.0) (list_any (λ j. j.module == h.1.0) rest) h.1.1, h.1.2))
+
     by : (b : Bool) → reaches rows i.module m ≡ b → (o : Option ℕ)
         → MatchOption o ((k : ℕ) → list_any (λ i. i.module == k) rest ≡ true → ¬ Reaches rows k m) (λ line. LeadsBackAt rows m rest line × ((k : ℕ) × (list_any (λ i. i.module == k) rest ≡ true) × Reaches rows k m))
         → MatchOption (cond b (Some i.line) o) ((k : ℕ) → list_any (λ i. i.module == k) (i ∷ rest) ≡ true → ¬ Reaches rows k m) (λ line. LeadsBackAt rows m (i ∷ rest) line × ((k : ℕ) × (list_any (λ i. i.module == k) (i ∷ rest) ≡ true) × Reaches rows k m))

@@ -1,11 +1,9 @@
 -- Reach as a function is reach by chains.
-use Rattle.std.proofs.Common.{◌≡◌, ◌⊎◌, ◌↔◌, ℕ, zero, suc, ◌<◌, ◌≤◌, ◌+◌, ◌||◌, ◌&&◌, Bool, true, false, List, [], ◌∷◌, length, refl, sym, ap, ◌∙◌, subst, ⊎_elim, inl, inr, arith}
-use Rattle.std.specs.Prelude.{slice_index_or}
-use Rattle.import_graph.specs.declared.rows.DirectImport.{DirectImport}
-use Rattle.import_graph.specs.Graph.{Rows, row_of, imports, Reaches}
+use Rattle.std.proofs.Common.{◌≡◌, ◌⊎◌, ℕ, zero, suc, ◌<◌, ◌&&◌, true, [], ◌∷◌, length, subst, ⊎_elim, inl, inr, arith}
+use Rattle.import_graph.specs.Graph.{Rows, imports, Reaches}
 use Rattle.import_graph.specs.Graph.Reaches.{one_import, first_import}
 use Rattle.import_graph.specs.Closure.{reaches_below, reaches}
-use Rattle.import_graph.proofs.Bools.{and_left, and_right, and_both, or_cases, or_left, or_right, not_both}
+use Rattle.import_graph.proofs.Bools.{and_left, and_right, and_both, or_cases, or_left, or_right}
 
 -- one chain after another
 pub chain_join : (rows : Rows) (m k n : ℕ) → Reaches rows m k → Reaches rows k n → Reaches rows m n
@@ -49,13 +47,14 @@ below_join rows zero m j n below a b = absurd (omega arith)
 below_join rows (suc k) m j n below a b =
     ⊎_elim
     (λ (e : j ≡ k). below_by rows k m n
-        (below_to rows k m (subst (λ (x : ℕ). reaches_below rows (suc k) m x ≡ true) e a))
-        (below_from rows k n (subst (λ (x : ℕ). reaches_below rows (suc k) x n ≡ true) e b)))
+    (below_to rows k m (subst (λ (x : ℕ). reaches_below rows (suc k) m x ≡ true) e a))
+    (below_from rows k n (subst (λ (x : ℕ). reaches_below rows (suc k) x n ≡ true) e b)))
     (λ (l : j < k). four rows k m j n (λ x y. below_join rows k x j y l) (below_cases rows k m j a) (below_cases rows k j n b))
     (last_or_below j k below)
   where
     last_or_below : (j k : ℕ) → j < suc k → (j ≡ k) ⊎ (j < k)
     last_or_below j k h = grind arith
+
     four : (rows : Rows) (k m j n : ℕ) → ((x y : ℕ) → reaches_below rows k x j ≡ true → reaches_below rows k j y ≡ true → reaches_below rows k x y ≡ true)
         → (reaches_below rows k m j ≡ true) ⊎ ((reaches_below rows k m k ≡ true) × (reaches_below rows k k j ≡ true))
         → (reaches_below rows k j n ≡ true) ⊎ ((reaches_below rows k j k ≡ true) × (reaches_below rows k k n ≡ true))

@@ -1,12 +1,11 @@
 -- The need is what is reached where cyclic modules import nothing.
-use Rattle.std.proofs.Common.{◌≡◌, ◌==◌, ◌⊎◌, ◌↔◌, ℕ, zero, suc, ◌<◌, ◌≤◌, ◌+◌, Bool, true, false, cond, List, [], ◌∷◌, length, refl, sym, ap, ◌∙◌, subst, ⊎_elim, inl, inr, arith}
-use Rattle.std.specs.Prelude.{slice_index_or}
+use Rattle.std.proofs.Common.{◌≡◌, ◌==◌, ℕ, zero, suc, ◌+◌, Bool, true, false, cond, List, [], ◌∷◌, length, refl, sym, ap, ◌∙◌, subst, arith}
 use Rattle.std.specs.List.{list_any}
 use Rattle.import_graph.specs.declared.rows.DirectImport.{DirectImport}
 use Rattle.import_graph.specs.Graph.{Rows, row_of, imports, Reaches, IsCyclic, Meets, Needs}
 use Rattle.import_graph.specs.Graph.Reaches.{one_import, first_import}
 use Rattle.import_graph.specs.Graph.Meets.{meets_import, meets_through}
-use Rattle.import_graph.specs.Closure.{reaches, is_cyclic, cut_from, cut}
+use Rattle.import_graph.specs.Closure.{is_cyclic, cut_from, cut}
 use Rattle.import_graph.proofs.Bools.{not_false, not_both}
 use Rattle.import_graph.proofs.Chains.{reaches_chain, chain_reaches}
 
@@ -51,7 +50,7 @@ cut_imports rows m n h = by (is_cyclic rows m) refl (subst (λ (row : List Direc
 pub imports_cut : (rows : Rows) (m n : ℕ) → is_cyclic rows m ≡ false → imports rows m n ≡ true → imports (cut rows) m n ≡ true
 imports_cut rows m n c h =
     subst (λ (row : List DirectImport). list_any (λ i. i.module == n) row ≡ true) (sym (row_cut rows m))
-        (subst (λ (b : Bool). list_any (λ i. i.module == n) (cond b [] (row_of rows m)) ≡ true) (sym c) h)
+    (subst (λ (b : Bool). list_any (λ i. i.module == n) (cond b [] (row_of rows m)) ≡ true) (sym c) h)
 
 pub cyclic_test : (rows : Rows) (m : ℕ) → ¬ IsCyclic rows m → is_cyclic rows m ≡ false
 cyclic_test rows m h = not_false (is_cyclic rows m) (λ e. h (reaches_chain rows m m e))

@@ -8,3 +8,4 @@ pub mod Worlds
 pub mod Bits
 pub mod Tables
 pub mod RowFacts
+pub mod Fronts

@@ -1,7 +1,5 @@
 -- The ascending list of the numbers below a bound that pass a test.
-use Rattle.std.proofs.Common.{◌≡◌, ◌⊎◌, ◌↔◌, ◌==◌, ℕ, zero, suc, ◌<◌, ◌≤◌, ◌+◌, ◌||◌, ◌&&◌, Bool, true, false, cond, List, [], ◌∷◌, ◌++◌, length, refl, sym, ap, ◌∙◌, subst, ⊎_elim, inl, inr, arith, get_or}
-use Rattle.std.specs.Prelude.{slice_index}
-use Rattle.std.specs.List.{list_any}
+use Rattle.std.proofs.Common.{◌≡◌, ◌⊎◌, ◌==◌, ℕ, zero, suc, ◌<◌, ◌≤◌, Bool, true, false, cond, List, [], ◌∷◌, ◌++◌, length, refl, sym, ◌∙◌, subst, ⊎_elim, arith, get_or}
 use Rattle.std.specs.List.Sorted.{IsStrictlyIncreasing}
 use Rattle.std.proofs.lemmas.Bool.Decides.{nat_tests}
 use Rattle.std.proofs.lemmas.List.{append-nil, length-append}
@@ -9,7 +7,7 @@ use Rattle.std.proofs.lemmas.List.Folds.{list_any-append}
 use Rattle.std.proofs.lemmas.Grind.{common_steps}
 use Rattle.import_graph.specs.Graph.{has, IsListOf}
 use Rattle.import_graph.specs.Closure.{those}
-use Rattle.import_graph.proofs.Bools.{and_left, and_right, and_both, or_cases, or_left, or_right, not_both}
+use Rattle.import_graph.proofs.Bools.{or_cases, or_left, or_right, not_both}
 
 -- the last number, if it passes
 last_has : (test : ℕ → Bool) (k n : ℕ) → has n (cond (test k) (k ∷ []) []) ≡ true → (n ≡ k) × (test n ≡ true)
@@ -76,9 +74,13 @@ pub those_less : (p q : ℕ → Bool) (c : ℕ) → ((n : ℕ) → p n ≡ true 
 those_less p q zero h n l e f = absurd (omega arith)
 those_less p q (suc k) h n l e f =
     ⊎_elim
-    (λ (same : n ≡ k). omega (arith, those_fewer p q k h,
-        last_less (p k) (q k) k (subst (λ (x : ℕ). p x ≡ false) same e) (subst (λ (x : ℕ). q x ≡ true) same f),
-        length-append (those p k) (cond (p k) (k ∷ []) []), length-append (those q k) (cond (q k) (k ∷ []) [])))
+    (λ (same : n ≡ k). omega (
+      arith,
+      those_fewer p q k h,
+      last_less (p k) (q k) k (subst (λ (x : ℕ). p x ≡ false) same e) (subst (λ (x : ℕ). q x ≡ true) same f),
+      length-append (those p k) (cond (p k) (k ∷ []) []),
+      length-append (those q k) (cond (q k) (k ∷ []) []),
+    ))
     (λ (below : n < k). omega (arith, those_less p q k h n below e f, last_fewer (p k) (q k) k (h k), length-append (those p k) (cond (p k) (k ∷ []) []), length-append (those q k) (cond (q k) (k ∷ []) [])))
     (last_or_below n k l)
   where
@@ -102,7 +104,7 @@ those_up test (suc k) = by (test k) refl (those_up test k)
     by true e up = (ascending_push (those test k) k up.0 up.1, below_push (those test k) k up.1)
     by false e up =
         subst (λ (xs : List ℕ). IsStrictlyIncreasing xs × ((i : ℕ) → i < length xs → get_or xs i 0 < suc k)) (sym (append-nil (those test k)))
-            (up.0, λ i l. omega (arith, up.1 i l))
+        (up.0, λ i l. omega (arith, up.1 i l))
 
 -- none pass
 pub those_none : (test : ℕ → Bool) (c : ℕ) → ((n : ℕ) → test n ≡ false) → those test c ≡ []

@@ -1,10 +1,10 @@
 -- The laws of a need hold of every graph.
-use Rattle.std.proofs.Common.{◌≡◌, ◌⊎◌, ◌↔◌, ℕ, zero, suc, ◌<◌, ◌≤◌, ◌+◌, Bool, true, false, List, [], ◌∷◌, length, refl, sym, ap, ◌∙◌, subst, ⊎_elim, inl, inr, arith}
-use Rattle.import_graph.specs.Graph.{Rows, imports, Reaches, Needs, has}
+use Rattle.std.proofs.Common.{◌≡◌, ◌⊎◌, ℕ, ◌<◌, ◌≤◌, true, false, [], length, inl, inr, arith}
+use Rattle.import_graph.specs.Graph.{Rows, imports, Reaches, has}
 use Rattle.import_graph.specs.Graph.Reaches.{one_import, first_import}
-use Rattle.import_graph.specs.Closure.{reaches, is_cyclic, cut, direct_of, reached_of, need_of, those}
-use Rattle.import_graph.specs.Needs.{IsNeed, HasNeeds}
-use Rattle.import_graph.proofs.Bools.{not_false, not_both}
+use Rattle.import_graph.specs.Closure.{reaches, is_cyclic, cut, direct_of, reached_of, need_of}
+use Rattle.import_graph.specs.Needs.{HasNeeds}
+use Rattle.import_graph.proofs.Bools.{not_false}
 use Rattle.import_graph.proofs.Chains.{chain_join, reaches_chain, chain_reaches, reaches_module}
 use Rattle.import_graph.proofs.Listed.{has_those, those_has, length-those, those_less, those_none}
 use Rattle.import_graph.proofs.Cuts.{length-cut, cut_imports, imports_cut, cut_needs, meets_chain}
@@ -42,8 +42,8 @@ unfolding need_of reached_of
 falls rows m n h =
     let r = has_those (reaches (cut rows) m) (length (cut rows)) n h in
     those_less (reaches (cut rows) n) (reaches (cut rows) m) (length (cut rows))
-        (λ k e. chain_reaches (cut rows) m k (chain_join (cut rows) m n k (reaches_chain (cut rows) m n r.1) (reaches_chain (cut rows) n k e)))
-        n r.0 (not_itself rows n) r.1
+    (λ k e. chain_reaches (cut rows) m k (chain_join (cut rows) m n k (reaches_chain (cut rows) m n r.1) (reaches_chain (cut rows) n k e)))
+    n r.0 (not_itself rows n) r.1
 
 direct_in : (rows : Rows) (m d : ℕ) → is_cyclic rows m ≡ false → has d (direct_of rows m) ≡ true → has d (need_of rows m) ≡ true
 direct_in rows m d c h = let r = has_direct rows m d h in need_has rows m d r.0 (one_import m d (imports_cut rows m d c r.1))
@@ -55,6 +55,7 @@ by_way rows m n h = let r = has_need rows m n h in by rows m n r.0 r.1
     first_not_cyclic : (rows : Rows) (m n : ℕ) → Reaches (cut rows) m n → is_cyclic rows m ≡ false
     first_not_cyclic rows m n (one_import a b i) = (cut_imports rows a b i).0
     first_not_cyclic rows m n (first_import a k b i rest) = (cut_imports rows a k i).0
+
     by : (rows : Rows) (m n : ℕ) → n < length rows → Reaches (cut rows) m n
         → (has n (direct_of rows m) ≡ true) ⊎ ((d : ℕ) × (has d (direct_of rows m) ≡ true) × (is_cyclic rows d ≡ false) × (has n (need_of rows d) ≡ true))
     by rows m n l (one_import a b i) = inl (direct_has rows a b l (cut_imports rows a b i).1)

@@ -1,5 +1,5 @@
 -- Rows and their parts, as the code walks them.
-use Rattle.std.proofs.Common.{◌≡◌, ◌==◌, ℕ, zero, suc, ◌<◌, ◌≤◌, ◌+◌, Bool, true, false, cond, List, [], ◌∷◌, ◌++◌, length, drop, Option, Some, None, nat_lt, add-one, drop-cons, get_or, refl, sym, ap, ◌∙◌, subst, arith, rules}
+use Rattle.std.proofs.Common.{◌≡◌, ℕ, zero, suc, ◌<◌, ◌≤◌, ◌+◌, Bool, true, false, cond, List, [], ◌∷◌, ◌++◌, length, drop, Some, None, nat_lt, add-one, drop-cons, refl, sym, ap, ◌∙◌, subst, arith}
 use Rattle.std.specs.Prelude.{slice_get, slice_index_or}
 use Rattle.std.specs.List.{list_all}
 use Rattle.std.proofs.lemmas.Bool.Decides.{nat_tests}
@@ -32,8 +32,8 @@ cut_from_all : (test : DirectImport → Bool) (rows : Rows) (from : ℕ) (rest :
 cut_from_all test rows from [] h = refl
 cut_from_all test rows from (row ∷ rest) h =
     and_both (list_all test (cond (is_cyclic rows from) [] row)) (list_all (list_all test) (cut_from rows (suc from) rest))
-        (either (is_cyclic rows from) (and_left (list_all test row) _ h))
-        (cut_from_all test rows (suc from) rest (and_right (list_all test row) (list_all (list_all test) rest) h))
+    (either (is_cyclic rows from) (and_left (list_all test row) _ h))
+    (cut_from_all test rows (suc from) rest (and_right (list_all test row) (list_all (list_all test) rest) h))
   where
     either : (b : Bool) → list_all test row ≡ true → list_all test (cond b [] row) ≡ true
     either true h = refl
@@ -76,7 +76,7 @@ those_same f g (suc k) h =
 pub named_row : (rows : Rows) (m count : ℕ) (row : List DirectImport) → is_graph rows ≡ true → slice_get rows m ≡ Some row → count ≡ length rows → list_all (λ i. nat_lt i.module count) row ≡ true
 named_row rows m count row all h e =
     subst (λ (k : ℕ). list_all (λ i. nat_lt i.module k) row ≡ true) (sym e)
-        (subst (λ (r : List DirectImport). list_all (λ i. nat_lt i.module (length rows)) r ≡ true) (row_at rows m row h) (row_all (length rows) rows m all))
+    (subst (λ (r : List DirectImport). list_all (λ i. nat_lt i.module (length rows)) r ≡ true) (row_at rows m row h) (row_all (length rows) rows m all))
 
 -- the line is that of the row
 pub line_of_row : (rows : Rows) (m : ℕ) (row : List DirectImport) → slice_get rows m ≡ Some row → line_back rows m row ≡ cyclic_line rows m

@@ -1,5 +1,5 @@
 -- Tables of sets: what one round of the closure makes of them.
-use Rattle.std.proofs.Common.{◌≡◌, ℕ, zero, suc, ◌<◌, ◌+◌, ◌||◌, ◌&&◌, Bool, List, [], ◌∷◌, ◌++◌, length, take, drop, add-one, refl, sym, ap, ◌∙◌, subst, arith}
+use Rattle.std.proofs.Common.{◌≡◌, ℕ, ◌<◌, ◌+◌, ◌||◌, ◌&&◌, Bool, List, [], ◌++◌, length, take, drop, add-one, sym, ap, ◌∙◌, subst, arith}
 use Rattle.std.specs.Prelude.{slice_index_or}
 use Rattle.std.proofs.lemmas.Grind.{common_steps}
 use Rattle.import_graph.specs.Graph.{Rows, imports}
@@ -12,9 +12,9 @@ step f count by from old new within source table passed = record {
   all = passed.all ∙ table.all;
   room = λ m l. passed.room m (inside m l) ∙ table.room m l;
   marks = λ m n l k. passed.marks m n (inside m l)
-    ∙ ap (λ b. b || (is_in (slice_index_or old m []) by && is_in from n)) (table.marks m n l k)
-    ∙ ap (λ b. f m n || (b && is_in from n)) (table.marks m by l within)
-    ∙ ap (λ b. f m n || (f m by && b)) (ap (λ (set : List ℕ). is_in set n) source ∙ table.marks by n within k);
+      ∙ ap (λ b. b || (is_in (slice_index_or old m []) by && is_in from n)) (table.marks m n l k)
+      ∙ ap (λ b. f m n || (b && is_in from n)) (table.marks m by l within)
+      ∙ ap (λ b. f m n || (f m by && b)) (ap (λ (set : List ℕ). is_in set n) source ∙ table.marks by n within k);
 }
   where
     inside : (m : ℕ) → m < count → m < length old
@@ -36,7 +36,7 @@ pub table_step : (rows : Rows) (by : ℕ) (from : List ℕ) (old new : List (Lis
     → IsTable (reaches_below rows (by + 1)) (length rows) new
 table_step rows by from old new within source table passed =
     table_same (λ m n. reaches_below rows by m n || (reaches_below rows by m by && reaches_below rows by by n)) (reaches_below rows (by + 1)) (length rows) new (below_next rows by)
-        (step (reaches_below rows by) (length rows) by from old new within source table passed)
+    (step (reaches_below rows by) (length rows) by from old new within source table passed)
 
 pub table_last : (rows : Rows) (by : ℕ) (sets : List (List ℕ)) → by ≡ length rows → IsTable (reaches_below rows by) (length rows) sets → IsTable (reaches rows) (length rows) sets
 unfolding reaches

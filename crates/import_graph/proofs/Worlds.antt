@@ -1,5 +1,5 @@
 -- Decided needs, and the one assignment that fits, from the laws of a need.
-use Rattle.std.proofs.Common.{◌≡◌, ◌⊎◌, ◌==◌, ℕ, zero, suc, ◌<◌, ◌||◌, Bool, true, false, List, [], ◌∷◌, length, refl, sym, ap, ◌∙◌, subst, ⊎_elim, arith, true≢false}
+use Rattle.std.proofs.Common.{◌≡◌, ◌==◌, ℕ, zero, suc, ◌<◌, Bool, true, false, List, [], ◌∷◌, length, refl, sym, ap, ◌∙◌, ⊎_elim, arith, true≢false}
 use Rattle.std.proofs.lemmas.Bool.Decides.{nat_tests}
 use Rattle.import_graph.specs.Graph.{has}
 use Rattle.import_graph.specs.Needs.{IsNeed, IsReady, DecidesNeeds}
@@ -27,14 +27,16 @@ need_within count direct need is_cyclic law (suc k) m n below h =
     ⊎_elim
     (λ (d : has n (direct m) ≡ true). law.within m n d)
     (λ (w : (d : ℕ) × (has d (direct m) ≡ true) × (is_cyclic d ≡ false) × (has n (need d) ≡ true)).
-        need_within count direct need is_cyclic law k w.0 n (omega (arith, below, through w.0 w.1 w.2 w.3)) w.3)
+    need_within count direct need is_cyclic law k w.0 n (omega (arith, below, through w.0 w.1 w.2 w.3)) w.3)
     (law.by_way m n h)
   where
     by : (b : Bool) → is_cyclic m ≡ b → is_cyclic m ≡ false
     by true e = let none : has n (need m) ≡ false = ap (has n) (law.of_cyclic m e) in absurd (true≢false (sym h ∙ none))
     by false e = e
+
     not_cyclic_m : (d : ℕ) → has d (direct m) ≡ true → is_cyclic m ≡ false
     not_cyclic_m d a = by (is_cyclic m) refl
+
     through : (d : ℕ) → has d (direct m) ≡ true → is_cyclic d ≡ false → has n (need d) ≡ true → length (need d) < length (need m)
     through d a c b = law.falls m d (law.direct_in m d (not_cyclic_m d a) a)
 
@@ -46,7 +48,7 @@ need_decided count direct need is_cyclic law is_decided kept (suc k) m below c r
     ⊎_elim
     (λ (d : has n (direct m) ≡ true). ready c n d)
     (λ (w : (d : ℕ) × (has d (direct m) ≡ true) × (is_cyclic d ≡ false) × (has n (need d) ≡ true)).
-        need_decided count direct need is_cyclic law is_decided kept k w.0 (omega (arith, below, law.falls m w.0 (law.direct_in m w.0 c w.1))) w.2 (kept w.0 (ready c w.0 w.1)) n w.3)
+    need_decided count direct need is_cyclic law is_decided kept k w.0 (omega (arith, below, law.falls m w.0 (law.direct_in m w.0 c w.1))) w.2 (kept w.0 (ready c w.0 w.1)) n w.3)
     (law.by_way m n h)
 
 pub decides_needs : (count : ℕ) (direct need : ℕ → List ℕ) (is_cyclic : ℕ → Bool) → IsNeed count direct need is_cyclic → DecidesNeeds direct need is_cyclic
@@ -69,14 +71,14 @@ pub world_is : {D : Type 0} (R : Rules D) (count : ℕ) → IsNeed count R.direc
 unfolding world world_to
 world_is R count law m =
     ap (R.right m) (with_each_same (world_to R (length (R.need m))) (λ n. world_to R (suc (length (R.need n))) n) (R.need m)
-        (λ n h. world_to_same R count law (length (R.need m)) (suc (length (R.need n))) n (law.falls m n h) (omega arith)))
+    (λ n h. world_to_same R count law (length (R.need m)) (suc (length (R.need n))) n (law.falls m n h) (omega arith)))
 
 -- whatever fits is the world
 only_world : {D : Type 0} (R : Rules D) (count : ℕ) → IsNeed count R.direct R.need R.is_cyclic → (verdict : ℕ → D) → Fits R count verdict → (k m : ℕ) → length (R.need m) < k → m < count → verdict m ≡ world R m
 only_world R count law verdict fits zero m a l = absurd (omega arith)
 only_world R count law verdict fits (suc k) m a l =
     fits m l ∙ ap (R.right m) (with_each_same verdict (world R) (R.need m)
-        (λ n h. only_world R count law verdict fits k n (omega (arith, law.falls m n h)) (need_within count R.direct R.need R.is_cyclic law (suc (length (R.need m))) m n (omega arith) h)))
+    (λ n h. only_world R count law verdict fits k n (omega (arith, law.falls m n h)) (need_within count R.direct R.need R.is_cyclic law (suc (length (R.need m))) m n (omega arith) h)))
     ∙ sym (world_is R count law m)
 
 pub world_one : {D : Type 0} (R : Rules D) (count : ℕ) → IsNeed count R.direct R.need R.is_cyclic → (verdict : ℕ → D) → Fits R count verdict → (m : ℕ) → m < count → verdict m ≡ world R m

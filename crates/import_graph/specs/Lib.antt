@@ -4,3 +4,4 @@ pub mod Needs
 pub mod World
 pub mod Sets
 pub mod Built
+pub mod Imports

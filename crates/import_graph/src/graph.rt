@@ -103,7 +103,13 @@ pub fn build_graph(alloc: Global, rows: &GraphRows) -> Result<Graph, AllocError>
     let cut = cut(alloc, rows, reached.as_slice())?;
     let needed = reach_table(alloc, &cut)?;
     Ok(Graph {
-        links: all_links(alloc, rows, imported.as_slice(), reached.as_slice(), needed.as_slice())?,
+        links: all_links(
+            alloc,
+            rows,
+            imported.as_slice(),
+            reached.as_slice(),
+            needed.as_slice(),
+        )?,
         rows: copy_rows(alloc, rows)?,
     })
 }

@@ -2,6 +2,7 @@
 #![tactic(auto)]
 
 pub mod graph;
+pub mod imports;
 pub mod laws;
 mod links;
 mod reach;

@@ -10,10 +10,7 @@ use lists::Items;
 use std::alloc::{AllocError, Global};
 
 /// For each module the set of those that it reaches.
-pub(crate) fn reach_table(
-    alloc: Global,
-    rows: &GraphRows,
-) -> Result<Vec<NumberSet>, AllocError>
+pub(crate) fn reach_table(alloc: Global, rows: &GraphRows) -> Result<Vec<NumberSet>, AllocError>
     requires { is_graph rows.now ≡ true }
     ensures { IfOk result (λ table. IsTable (reaches rows.now) (length rows.now) table.items) }
 {
@@ -41,22 +38,18 @@ pub(crate) fn import_table(alloc: Global, rows: &GraphRows) -> Result<Vec<Number
 pub(crate) fn listed(
     alloc: Global,
     table: &[NumberSet],
-    module: usize,
+    at: usize,
 ) -> Result<Items<u32>, AllocError>
     requires few { length table.now ≤ 4294967295 }
-    requires within { «module» < length table.now }
-    requires room { length (slice_index_or table.now «module» []) ≡ words_for (length table.now) }
-    ensures { (test : ℕ → ℕ → Bool) → IsTable test (length table.now) table.now → IfOk result (λ made. made ≡ those (test «module») (length table.now)) }
+    requires within { at < length table.now }
+    requires room { length (slice_index_or table.now at []) ≡ words_for (length table.now) }
+    ensures { (test : ℕ → ℕ → Bool) → IsTable test (length table.now) table.now → IfOk result (λ made. made ≡ those (test at) (length table.now)) }
 {
-    table[module].numbers(alloc, table.len() as u32)
+    table[at].numbers(alloc, table.len() as u32)
 }
 
 /// The set of the modules that a row names.
-fn imported(
-    alloc: Global,
-    row: &[DirectImport],
-    bound: usize,
-) -> Result<NumberSet, AllocError>
+fn imported(alloc: Global, row: &[DirectImport], bound: usize) -> Result<NumberSet, AllocError>
     requires { list_all (λ i. nat_lt i.module bound) row.now ≡ true }
     ensures marks { IfOk result (λ set. (n : ℕ) → is_in set n ≡ list_any (λ i. i.module == n) row.now) }
     ensures room { IfOk result (λ set. length set ≡ words_for bound) }

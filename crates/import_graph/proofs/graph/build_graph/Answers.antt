@@ -1,4 +1,4 @@
-use Rattle.std.proofs.Common.{◌≡◌, true, ap, ◌∙◌, sym}
+use Rattle.std.proofs.Common.{ap, ◌∙◌}
 use Rattle.import_graph.specs.Graph.{is_graph}
 use Rattle.import_graph.proofs.RowFacts.{is_graph-cut, table_of_cut}
 use Rattle.import_graph.proofs.graph.build_graph.Goals as goal

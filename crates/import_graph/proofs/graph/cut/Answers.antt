@@ -1,4 +1,4 @@
-use Rattle.std.proofs.Common.{◌≡◌, ◌++◌, drop, ap, ◌∙◌}
+use Rattle.std.proofs.Common.{◌++◌, drop, ap, ◌∙◌}
 use Rattle.import_graph.specs.Graph.{Rows}
 use Rattle.import_graph.specs.Closure.{cut_from}
 use Rattle.import_graph.proofs.RowFacts.{cut_start}

@@ -1,10 +1,8 @@
-use Rattle.std.proofs.Common.{◌≡◌, ◌<◌, ◌≤◌, ◌+◌, ◌/◌, ℕ, List, Bool, true, false, Some, None, length, drop, nat_lt, slice_index_or, refl, sym, ap, ◌∙◌, arith}
+use Rattle.std.proofs.Common.{◌≡◌, ◌<◌, ◌+◌, ◌/◌, ℕ, List, Some, length, slice_index_or, refl, sym, ap, ◌∙◌, arith}
 use Rattle.std.specs.Prelude.{slice_get}
-use Rattle.std.specs.List.{list_all}
 use Rattle.import_graph.specs.declared.rows.DirectImport.{DirectImport}
 use Rattle.import_graph.specs.Graph.{Rows}
-use Rattle.import_graph.specs.Closure.{reaches, line_back, cyclic_line}
-use Rattle.import_graph.specs.Sets.{is_in}
+use Rattle.import_graph.specs.Closure.{reaches}
 use Rattle.import_graph.proofs.RowFacts.{named_at, named_row, line_of_row, line_here, line_later, line_none, table_tells, table_room}
 use Rattle.import_graph.proofs.graph.line_back.Goals as goal
 

@@ -4,4 +4,4 @@ use Rattle.import_graph.proofs.reach.listed.Goals as goal
 
 pub returns : goal.returns
 returns c test table =
-    subst (λ (ns : List ℕ). IfOk c.numbers.result (λ made. made ≡ ns)) (listed_is test c.args.table.now c.args.module c.index-table-module.result table c.requires.within c.index-table-module.is) c.numbers.ensures
+    subst (λ (ns : List ℕ). IfOk c.numbers.result (λ made. made ≡ ns)) (listed_is test c.args.table.now c.args.at c.index-table-at.result table c.requires.within c.index-table-at.is) c.numbers.ensures

@@ -19,10 +19,10 @@ loop-by-preserved c =
     let from : c.in_ok-from.from ≡ slice_index_or old c.loop-by.by [] = c.in_ok-from.ensures ∙ c.index.ensures ∙ get_or_default old c.loop-by.by c.index.result.now [] inside in
     let passed : IsPassedOn c.loop-by.by c.in_ok-from.from old new = subst (λ (sets : List (List ℕ)). IsPassedOn c.loop-by.by c.in_ok-from.from sets new) c.as_mut_slice.ensures.value c.pass_on.ensures in
     subst (λ (sets : List (List ℕ)). IsTable (reaches_below rows (c.loop-by.by + 1)) (length rows) sets)
-        (sym (lent_whole new old c.loop-by.table.len passed.all c.loop-by.table.ok.0))
-        (table_step rows c.loop-by.by c.in_ok-from.from old new within from c.loop-by.invariant passed)
+    (sym (lent_whole new old c.loop-by.table.len passed.all c.loop-by.table.ok.0))
+    (table_step rows c.loop-by.by c.in_ok-from.from old new within from c.loop-by.invariant passed)
 
 pub returns : goal.returns
 returns c =
     table_last c.args.rows.now c.loop-by.by c.loop-by.table.items
-        (omega (arith, c.loop-by-test.false, c.loop-by.auto.by-end, c.len-by-end.ensures, c.in_ok-table.table.ok, c.in_ok-table.ensures.all)) c.loop-by.invariant
+    (omega (arith, c.loop-by-test.false, c.loop-by.auto.by-end, c.len-by-end.ensures, c.in_ok-table.table.ok, c.in_ok-table.ensures.all)) c.loop-by.invariant

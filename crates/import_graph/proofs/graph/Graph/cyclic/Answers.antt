@@ -7,4 +7,4 @@ use Rattle.import_graph.proofs.graph.Graph.cyclic.Goals as goal
 pub returns-clause-exact : goal.returns-clause-exact
 returns-clause-exact c =
     subst (λ (o : Option ℕ). MatchOption o (¬ IsCyclic c.args.self.now c.args.module) (λ line. IsCyclic c.args.self.now c.args.module × LeadsBackAt c.args.self.now c.args.module (row_of c.args.self.now c.args.module) line))
-        (sym (ap (λ (l : Links). l.cyclic) c.links.ensures.value)) (cyclic_line_is c.args.self.now c.args.module)
+    (sym (ap (λ (l : Links). l.cyclic) c.links.ensures.value)) (cyclic_line_is c.args.self.now c.args.module)
