@@ -1,4 +1,5 @@
-ghost use Rattle.std.specs.Prelude.{◌≡◌, ◌<◌, ◌≤◌, ◌/◌, ℕ, [], true, cond, Bool, Some, IfOk, MatchOption, length, slice_get};
+ghost use Rattle.std.specs.Prelude.{◌≡◌, ◌<◌, ◌≤◌, ◌/◌, ℕ, [], true, cond, Bool, Some, IfOk, MatchOption, length, nat_lt, slice_get};
+ghost use Rattle.std.specs.List.{list_all};
 ghost use Rattle.import_graph.specs.Graph.{Rows, row_of, is_graph, imports, Reaches, IsCyclic, Needs, LeadsBackAt, IsListOf};
 ghost use Rattle.import_graph.specs.Closure.{count, reaches, is_cyclic, direct_of, reached_of, need_of, cut, cyclic_line};
 ghost use Rattle.import_graph.specs.Sets.{IsTable};
@@ -90,6 +91,23 @@ impl Graph {
     {
         self.links.at(module as usize)
     }
+}
+
+/// Whether each import of these rows names one of them.
+pub fn is_graph(rows: &GraphRows) -> bool
+    ensures { result ≡ is_graph rows.now }
+{
+    let count = rows.len();
+    rows.as_slice()
+        .iter()
+        .all(|row| names_modules(row.as_slice(), count))
+}
+
+/// Whether each import of a row names a module, where there are so many.
+fn names_modules(row: &[DirectImport], count: usize) -> bool
+    ensures { result ≡ list_all (λ i. nat_lt i.module count) row.now }
+{
+    row.iter().all(|import| (import.module as usize) < count)
 }
 
 /// The graph of these rows.
@@ -208,3 +226,6 @@ fn copy_rows(alloc: Global, rows: &GraphRows) -> Result<GraphRows, AllocError>
     }
     Ok(copy)
 }
+
+#[cfg(test)]
+mod tests;

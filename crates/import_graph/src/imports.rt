@@ -108,3 +108,6 @@ fn taken_names(alloc: Global, names: &[Import]) -> Result<Texts, AllocError>
     }
     Ok(taken)
 }
+
+#[cfg(test)]
+mod tests;
