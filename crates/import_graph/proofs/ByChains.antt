@@ -3,7 +3,7 @@ use Rattle.std.proofs.Common.{◌≡◌, ◌==◌, ◌⊎◌, ◌↔◌, ℕ, ze
 use Rattle.std.specs.List.{list_all, list_any}
 use Rattle.std.proofs.lemmas.Bool.Decides.{nat_tests}
 use Rattle.import_graph.specs.declared.rows.DirectImport.{DirectImport}
-use Rattle.import_graph.specs.Graph.{Rows, row_of, is_graph, imports, Reaches, IsCyclic, Needs, LeadsBackAt, IsListOf}
+use Rattle.import_graph.specs.Graph.{Rows, row_of, is_graph, imports, Reaches, IsCyclic, IsRefusedAt, Needs, LeadsBackAt, IsListOf}
 use Rattle.import_graph.specs.Graph.Reaches.{one_import, first_import}
 use Rattle.import_graph.specs.Graph.LeadsBackAt.{this_import, later_import}
 use Rattle.import_graph.specs.Closure.{reaches, cut, direct_of, reached_of, need_of, line_back, cyclic_line}
@@ -82,13 +82,13 @@ pub leads_back : (rows : Rows) (m n : ℕ) → Reaches rows m n → (k : ℕ) ×
 leads_back rows m n (one_import a b i) = (b, i, inl refl)
 leads_back rows m n (first_import a k b i rest) = (k, i, inr rest)
 
-pub cyclic_line_is : (rows : Rows) (m : ℕ) → MatchOption (cyclic_line rows m) (¬ IsCyclic rows m) (λ line. IsCyclic rows m × LeadsBackAt rows m (row_of rows m) line)
+pub cyclic_line_is : (rows : Rows) (m : ℕ) → IsRefusedAt rows m (cyclic_line rows m)
 unfolding cyclic_line
 cyclic_line_is rows m = by (line_back rows m (row_of rows m)) (line_back_is rows m (row_of rows m))
   where
     by : (o : Option ℕ)
         → MatchOption o ((k : ℕ) → imports rows m k ≡ true → ¬ Reaches rows k m) (λ line. LeadsBackAt rows m (row_of rows m) line × ((k : ℕ) × (imports rows m k ≡ true) × Reaches rows k m))
-        → MatchOption o (¬ IsCyclic rows m) (λ line. IsCyclic rows m × LeadsBackAt rows m (row_of rows m) line)
+        → IsRefusedAt rows m o
     by None h = λ cycle. let r = leads_back rows m m cycle in
         ⊎_elim (λ (e : r.0 ≡ m). h r.0 r.1 (subst (λ (x : ℕ). Reaches rows x m) (sym e) cycle)) (λ (b : Reaches rows r.0 m). h r.0 r.1 b) r.2
     by (Some line) h = (first_import m h.1.0 m h.1.1 h.1.2, h.0)

@@ -1,5 +1,5 @@
 -- The import graph: each module has a number, from 0, and a row, which is the modules that the imports of its top part name.
-use Rattle.std.specs.Prelude.{◌≡◌, ◌↔◌, ℕ, ◌==◌, Bool, true, List, [], ◌∷◌, length, nat_lt, slice_index_or}
+use Rattle.std.specs.Prelude.{◌≡◌, ◌↔◌, ℕ, ◌==◌, Bool, true, List, [], ◌∷◌, length, nat_lt, slice_index_or, Option, Some, None}
 use Rattle.std.specs.List.{list_all, list_any}
 use Rattle.std.specs.List.Sorted.{IsStrictlyIncreasing}
 use Rattle.import_graph.specs.declared.rows.DirectImport.{DirectImport}
@@ -41,7 +41,13 @@ pub record Needs (rows : Rows) (m n : ℕ) : Type 0 where
 -- the line of the first of these imports whose module reaches m
 pub data LeadsBackAt (rows : Rows) (m : ℕ) : List DirectImport → ℕ → Type 0 where
   this_import : (i : DirectImport) (rest : List DirectImport) → Reaches rows i.module m → LeadsBackAt rows m (i ∷ rest) i.line
-  later_import : (i : DirectImport) (rest : List DirectImport) (line : ℕ) → ¬ Reaches rows i.module m → LeadsBackAt rows m rest line → LeadsBackAt rows m (i ∷ rest) line
+  later_import : (i : DirectImport) (rest : List DirectImport) (line : ℕ) → ¬ Reaches rows i.module m
+      → LeadsBackAt rows m rest line → LeadsBackAt rows m (i ∷ rest) line
+
+-- a cyclic module is refused at that line of its row, and no other at any
+abbrev pub IsRefusedAt : Rows → ℕ → Option ℕ → Type 0
+IsRefusedAt rows m None = ¬ IsCyclic rows m
+IsRefusedAt rows m (Some line) = IsCyclic rows m × LeadsBackAt rows m (row_of rows m) line
 
 -- whether n stands in the list
 abbrev pub has : ℕ → List ℕ → Bool

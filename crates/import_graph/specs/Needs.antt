@@ -9,7 +9,8 @@ pub record IsNeed (count : ℕ) (direct need : ℕ → List ℕ) (is_cyclic : �
   pub short : (m : ℕ) → length (need m) ≤ count
   pub falls : (m n : ℕ) → has n (need m) ≡ true → length (need n) < length (need m)
   pub direct_in : (m d : ℕ) → is_cyclic m ≡ false → has d (direct m) ≡ true → has d (need m) ≡ true
-  pub by_way : (m n : ℕ) → has n (need m) ≡ true → (has n (direct m) ≡ true) ⊎ ((d : ℕ) × (has d (direct m) ≡ true) × (is_cyclic d ≡ false) × (has n (need d) ≡ true))
+  pub by_way : (m n : ℕ) → has n (need m) ≡ true
+      → (has n (direct m) ≡ true) ⊎ ((d : ℕ) × (has d (direct m) ≡ true) × (is_cyclic d ≡ false) × (has n (need d) ≡ true))
 
 -- of the graph of these rows
 abbrev pub HasNeeds : Rows → Type 0

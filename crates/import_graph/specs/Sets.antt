@@ -20,4 +20,5 @@ pub record IsTable (test : ℕ → ℕ → Bool) (count : ℕ) (sets : List (Lis
 pub record IsPassedOn (by : ℕ) (from : List ℕ) (old new : List (List ℕ)) : Type 0 where
   pub all : length new ≡ length old
   pub room : (m : ℕ) → m < length old → length (slice_index_or new m []) ≡ length (slice_index_or old m [])
-  pub marks : (m n : ℕ) → m < length old → is_in (slice_index_or new m []) n ≡ is_in (slice_index_or old m []) n || (is_in (slice_index_or old m []) by && is_in from n)
+  pub marks : (m n : ℕ) → m < length old
+      → is_in (slice_index_or new m []) n ≡ is_in (slice_index_or old m []) n || (is_in (slice_index_or old m []) by && is_in from n)

@@ -1,6 +1,6 @@
-ghost use Rattle.std.specs.Prelude.{◌≡◌, ◌<◌, ◌≤◌, ◌/◌, ℕ, [], true, cond, Bool, Some, IfOk, MatchOption, length, nat_lt, slice_get};
+ghost use Rattle.std.specs.Prelude.{◌≡◌, ◌<◌, ◌≤◌, ◌/◌, ℕ, [], true, cond, Bool, Some, IfOk, length, nat_lt, slice_get};
 ghost use Rattle.std.specs.List.{list_all};
-ghost use Rattle.import_graph.specs.Graph.{Rows, row_of, is_graph, imports, Reaches, IsCyclic, Needs, LeadsBackAt, IsListOf};
+ghost use Rattle.import_graph.specs.Graph.{Rows, row_of, is_graph, imports, Reaches, IsRefusedAt, Needs, IsListOf};
 ghost use Rattle.import_graph.specs.Closure.{count, reaches, is_cyclic, direct_of, reached_of, need_of, cut, cyclic_line};
 ghost use Rattle.import_graph.specs.Sets.{IsTable};
 ghost use Rattle.import_graph.specs.Built.{links_of, IsBuilt};
@@ -79,7 +79,7 @@ impl Graph {
     pub fn cyclic(&self, module: u32) -> Option<u32>
         requires { «module» < count self.now }
         ensures value { result ≡ cyclic_line self.now «module» }
-        ensures exact { MatchOption result (¬ IsCyclic self.now «module») (λ line. IsCyclic self.now «module» × LeadsBackAt self.now «module» (row_of self.now «module») line) }
+        ensures exact { IsRefusedAt self.now «module» result }
     {
         self.links(module).cyclic
     }

@@ -62,9 +62,11 @@ fn rows_at_front(alloc: Global, body: &[Stmt]) -> Result<ImportRows, AllocError>
     Ok(rows)
 }
 
-/// What an import statement names.
+/// What a statement names, where it is an import.
 fn statement_rows(alloc: Global, statement: &Stmt) -> Result<Option<ImportRows>, AllocError>
-    ensures { IfOk result (λ found. MatchOption found (is_import (kind_of statement.now.kind) ≡ false) (λ rows. (is_import (kind_of statement.now.kind) ≡ true) × (rows ≡ rows_of (statement_of statement.now)))) }
+    ensures { IfOk result (λ found. MatchOption found
+        (is_import (kind_of statement.now.kind) ≡ false)
+        (λ rows. (is_import (kind_of statement.now.kind) ≡ true) × (rows ≡ rows_of (statement_of statement.now)))) }
 {
     match &statement.kind {
         StmtKind::Import(names) => {
@@ -85,7 +87,8 @@ fn statement_rows(alloc: Global, statement: &Stmt) -> Result<Option<ImportRows>,
 
 /// A row for each module of an `import`.
 fn module_rows(alloc: Global, line: u32, names: &[Import]) -> Result<ImportRows, AllocError>
-    ensures { IfOk result (λ rows. rows ≡ map (λ (i : Imported). record { line = line; «module» = i.name; names = [] }) names.now) }
+    ensures { IfOk result (λ rows. rows ≡
+        map (λ (i : Imported). record { line = line; «module» = i.name; names = [] }) names.now) }
 {
     let mut rows = Items::new(alloc);
     for import in names {

@@ -43,7 +43,8 @@ pub(crate) fn listed(
     requires few { length table.now ≤ 4294967295 }
     requires within { at < length table.now }
     requires room { length (slice_index_or table.now at []) ≡ words_for (length table.now) }
-    ensures { (test : ℕ → ℕ → Bool) → IsTable test (length table.now) table.now → IfOk result (λ made. made ≡ those (test at) (length table.now)) }
+    ensures { (test : ℕ → ℕ → Bool) → IsTable test (length table.now) table.now →
+        IfOk result (λ made. made ≡ those (test at) (length table.now)) }
 {
     table[at].numbers(alloc, table.len() as u32)
 }

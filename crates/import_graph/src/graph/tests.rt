@@ -34,6 +34,9 @@ const fn module(
     }
 }
 
+/// Takes what threads may share.
+fn share<T: Send + Sync>(_shared: &T) {}
+
 fn rows_of(alloc: Global, cases: &[Case]) -> Result<GraphRows, AllocError> {
     let mut rows = Items::new(alloc);
     for case in cases {
