@@ -5,6 +5,7 @@ use Rattle.py_tree.specs.Syntax.{Expression, Statement, Statements}
 use Rattle.py_tree.specs.Nesting.{nesting}
 use Rattle.py_tree.specs.Literals.{greatest_int, fits}
 use Rattle.py_tree.specs.Lawful.{lawful}
+use Rattle.py_tree.specs.TopPart.{top_imports, below_top_part}
 use Rattle.py_tree.specs.Order.{parts, of_scope, wholes, whole}
 use Rattle.py_tree.specs.declared.operator.UnaryOp.TheVariants.{Minus}
 use Rattle.py_tree.specs.declared.operator.BinaryOp.TheVariants.{Sub}
@@ -88,3 +89,21 @@ an_elif :
     wholes (alone (x.On 1 (x.If (x.more_branches (x.Tested 1 named (alone (x.On 2 (x.Eval (x.Int 1))))) (x.more_branches (x.Tested 3 (x.Int 2) (alone (x.On 4 (x.Eval (x.Int 3))))) x.end_of_branches)) x.end_of_statements)))
     ≡ whole 1 named ∷ whole 2 (x.Int 1) ∷ whole 3 (x.Int 2) ∷ whole 4 (x.Int 3) ∷ []
 an_elif = refl
+
+-- the top part
+
+-- a text, an import, pass, and an import on the lines 1 to 4
+a_late_import : Statements
+a_late_import = x.more_statements (x.On 3 x.Pass) (alone (x.On 4 (x.Imports [])))
+
+its_top_part : top_imports (x.more_statements (x.On 1 (x.Eval (x.Str (codes "a")))) (x.more_statements (x.On 2 (x.From (codes "a") [])) a_late_import)) ≡ x.On 2 (x.From (codes "a") []) ∷ []
+unfolding a_late_import
+its_top_part = refl
+
+below_it : below_top_part (x.more_statements (x.On 1 (x.Eval (x.Str (codes "a")))) (x.more_statements (x.On 2 (x.From (codes "a") [])) a_late_import)) ≡ a_late_import
+unfolding a_late_import
+below_it = refl
+
+-- a text that isn't first is no docstring
+no_docstring : top_imports (x.more_statements (x.On 1 x.Pass) (alone (x.On 2 (x.Imports [])))) ≡ []
+no_docstring = refl

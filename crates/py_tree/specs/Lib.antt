@@ -5,3 +5,4 @@ pub mod Nesting
 pub mod Literals
 pub mod Lawful
 pub mod Order
+pub mod TopPart

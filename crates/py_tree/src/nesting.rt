@@ -61,3 +61,31 @@ fn deepest_keyword(keywords: &[Keyword]) -> u32
     }
     most
 }
+
+#[cfg(test)]
+mod tests {
+    use super::*;
+    use crate::expression::{Exprs, Keywords};
+    use crate::operator::UnaryOp;
+    use crate::text::Text;
+    use sqlite_items::Boxed;
+    use std::test::Fail;
+
+    #[test]
+    fn a_keyword_argument_is_as_deep_as_its_value(rt: HostRuntime) -> Result<(), Fail> {
+        let alloc = rt.alloc();
+        let value = Expr::Unary(UnaryOp::Minus, Boxed::new(alloc, Expr::Int(1))?);
+        let mut keys = Keywords::new(alloc);
+        keys.push(Keyword {
+            name: Text::from_str(alloc, "k")?,
+            value,
+        })?;
+        let call = Expr::Call {
+            callee: Boxed::new(alloc, Expr::Name(Text::from_str(alloc, "f")?))?,
+            args: Exprs::new(alloc),
+            keys,
+        };
+        assert_eq!(rt; depth(&call), 3);
+        Ok(())
+    }
+}

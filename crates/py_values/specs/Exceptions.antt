@@ -1,0 +1,38 @@
+-- The exception classes: their names, and which is directly below which.
+use Rattle.std.specs.Prelude.{ℕ, List, codes, Option, Some, None}
+use Rattle.py_values.specs.declared.exception.ExcKind.{ExcKind}
+use Rattle.py_values.specs.declared.exception.ExcKind.TheVariants.{Exception, ArithmeticError, ZeroDivisionError, OverflowError, LookupError, IndexError, KeyError, NameError, UnboundLocalError, AttributeError, TypeError, ValueError, RuntimeError, RecursionError, FrozenError}
+
+abbrev pub name_of : ExcKind → List ℕ
+name_of Exception = codes "Exception"
+name_of ArithmeticError = codes "ArithmeticError"
+name_of ZeroDivisionError = codes "ZeroDivisionError"
+name_of OverflowError = codes "OverflowError"
+name_of LookupError = codes "LookupError"
+name_of IndexError = codes "IndexError"
+name_of KeyError = codes "KeyError"
+name_of NameError = codes "NameError"
+name_of UnboundLocalError = codes "UnboundLocalError"
+name_of AttributeError = codes "AttributeError"
+name_of TypeError = codes "TypeError"
+name_of ValueError = codes "ValueError"
+name_of RuntimeError = codes "RuntimeError"
+name_of RecursionError = codes "RecursionError"
+name_of FrozenError = codes "FrozenError"
+
+abbrev pub base_of : ExcKind → Option ExcKind
+base_of Exception = None
+base_of ArithmeticError = Some Exception
+base_of ZeroDivisionError = Some ArithmeticError
+base_of OverflowError = Some ArithmeticError
+base_of LookupError = Some Exception
+base_of IndexError = Some LookupError
+base_of KeyError = Some LookupError
+base_of NameError = Some Exception
+base_of UnboundLocalError = Some NameError
+base_of AttributeError = Some Exception
+base_of TypeError = Some Exception
+base_of ValueError = Some Exception
+base_of RuntimeError = Some Exception
+base_of RecursionError = Some RuntimeError
+base_of FrozenError = Some Exception
