@@ -52,7 +52,7 @@ a_builtin : special_lines (module_context x.end_of_statements) (alone (x.On 1 (a
 a_builtin = refl
 
 -- def f(): import a
-in_a_function : late_imports (alone (x.On 2 (def_of (codes "f") (alone (x.On 3 (x.Imports []))))) ) ≡ 3 ∷ []
+in_a_function : late_imports (alone (x.On 2 (def_of (codes "f") (alone (x.On 3 (x.Imports [])))))) ≡ 3 ∷ []
 in_a_function = refl
 
 -- class C(int)
@@ -62,9 +62,9 @@ no_class = refl
 -- class C: `__init__` assigns self.m, and m is a method
 abbrev clashing : Statements
 clashing =
-  alone (x.On 2 (x.Class (x.Classed (codes "C") None
+    alone (x.On 2 (x.Class (x.Classed (codes "C") None
     (x.more_statements (x.On 3 (x.Def (x.Defined (codes "__init__") [] None (alone (x.On 4 (x.Assign (x.ToAttr (x.Name (codes "self")) (codes "m")) (x.Int 1)))))))
-      (alone (x.On 5 (def_of (codes "m") (alone (x.On 5 x.Pass)))))))))
+    (alone (x.On 5 (def_of (codes "m") (alone (x.On 5 x.Pass)))))))))
 
 a_clash : member_clashes outer clashing ≡ 2 ∷ []
 a_clash = refl

@@ -14,7 +14,7 @@ pub record Binding : Type 0 where
   pub name : Text
   pub line : ℕ
   pub kind : BindingKind
-  pub static_name : Option StaticName -- what it is bound to, where that is a static name
+  pub static_name : Option StaticName  -- what it is bound to, where that is a static name
 
 abbrev pub bound : ℕ → BindingKind → Text → Binding
 bound line kind name = record { name = name; line = line; kind = kind; static_name = None }

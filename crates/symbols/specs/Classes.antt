@@ -100,8 +100,8 @@ pub record Class : Type 0 where
   pub name : Text
   pub line : ℕ
   pub base : Base
-  pub kin : Kin -- the class itself, with its bases
-  pub methods : List Text -- its own
+  pub kin : Kin  -- the class itself, with its bases
+  pub methods : List Text  -- its own
 
 abbrev pub base_or : Option Kin → Base → Base
 base_or (Some kin) other = a_base kin

@@ -13,9 +13,9 @@ use Rattle.symbols.specs.Bindings.{Binding, bindings, locals, alias_or}
 -- where names stand
 pub record Context : Type 0 where
   pub in_class : Bool
-  pub in_method : Bool -- in the body of a method
-  pub statics : List Binding -- the module's bindings of static names
-  pub locals : List Text -- of the function, which hide them
+  pub in_method : Bool  -- in the body of a method
+  pub statics : List Binding  -- the module's bindings of static names
+  pub locals : List Text  -- of the function, which hide them
 
 abbrev pub module_context : Statements → Context
 module_context body = record { in_class = false; in_method = false; statics = filter (λ b. is_some b.static_name) (bindings body); locals = [] }
@@ -74,7 +74,7 @@ forbidden_method c name = forbidden c (all_special ∷ init_special ∷ []) name
 
 -- what is around a name
 pub record Use : Type 0 where
-  pub in_type : Bool -- in an annotation, or in the first argument of `cast`
+  pub in_type : Bool  -- in an annotation, or in the first argument of `cast`
   pub called : Bool
 
 abbrev pub plain : Use
@@ -209,7 +209,7 @@ abbrev mutual
   kind_lines c line (x.For t e body) = at line (target_special c t || special c plain e) ++ special_lines c body
   kind_lines c line (x.Try body handlers) = special_lines c body ++ clauses_lines c line handlers
   kind_lines c line (x.Def (x.Defined name params result body)) =
-    at line (forbidden_binding c name || signature_special c params result) ++ special_lines (in_function_body c (x.Defined name params result body)) body
+      at line (forbidden_binding c name || signature_special c params result) ++ special_lines (in_function_body c (x.Defined name params result body)) body
   kind_lines c line (x.Class (x.Classed name base body)) = at line (forbidden_binding c name || maybe_special c plain base) ++ member_lines (in_class_body c) body
   kind_lines c line _ = []
 
@@ -222,13 +222,13 @@ abbrev mutual
   pub clauses_lines : Context → ℕ → Clauses → List ℕ
   clauses_lines c line x.end_of_clauses = []
   clauses_lines c line (x.more_clauses (x.Except matches name body) rest) =
-    at line (maybe_special c plain matches || maybe_forbidden c name) ++ (special_lines c body ++ clauses_lines c line rest)
+      at line (maybe_special c plain matches || maybe_forbidden c name) ++ (special_lines c body ++ clauses_lines c line rest)
 
   -- in a class body
   pub member_lines : Context → Statements → List ℕ
   member_lines c x.end_of_statements = []
   member_lines c (x.more_statements (x.On line (x.Annotate (x.ToName name) kind value)) rest) =
-    at line (forbidden_field c name || (special c typed kind || maybe_special c plain value)) ++ member_lines c rest
+      at line (forbidden_field c name || (special c typed kind || maybe_special c plain value)) ++ member_lines c rest
   member_lines c (x.more_statements (x.On line (x.Def (x.Defined name params result body))) rest) =
-    at line (forbidden_method c name || signature_special c params result) ++ (special_lines (in_function_body c (x.Defined name params result body)) body ++ member_lines c rest)
+      at line (forbidden_method c name || signature_special c params result) ++ (special_lines (in_function_body c (x.Defined name params result body)) body ++ member_lines c rest)
   member_lines c (x.more_statements other rest) = member_lines c rest

@@ -7,12 +7,12 @@ use Rattle.symbols.specs.Words.{is_builtin}
 use Rattle.symbols.specs.SpecialNames.{Context, static_of}
 
 pub data Bound : Type 0 where
-  local : ℕ → Bound -- by its place among the function's locals
+  local : ℕ → Bound  -- by its place among the function's locals
   static_name : StaticName → Bound
-  global : ℕ → Bound -- by its place among the module's globals
+  global : ℕ → Bound  -- by its place among the module's globals
   builtin : Bound
-  module_name : Bound -- `__name__`
-  nothing : Bound -- nowhere: a read raises NameError
+  module_name : Bound  -- `__name__`
+  nothing : Bound  -- nowhere: a read raises NameError
 
 abbrev pub place_of : Text → List Text → Option ℕ
 place_of name names = position (bytes_eq name) names
