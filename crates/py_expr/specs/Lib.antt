@@ -3,3 +3,8 @@ pub mod Tokens
 pub mod Grammar
 pub mod Lines
 pub mod Depth
+pub mod Ends
+pub mod Machine
+pub mod Emitted
+pub mod Views
+pub mod Phrases

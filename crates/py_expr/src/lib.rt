@@ -2,3 +2,5 @@
 #![tactic(auto)]
 
 pub mod form;
+mod machine;
+pub mod phrase;

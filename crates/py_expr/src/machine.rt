@@ -1,0 +1,93 @@
+use py_lexer::token::Token;
+use py_tree::operator::{BinaryOp, CompareOp, Const, UnaryOp};
+use py_tree::text::Text;
+
+/// What has been opened and waits for an expression. A number counts the items before a comma.
+#[derive(Clone, Copy)]
+pub enum Frame<'a> {
+    /// The whole phrase, which may be a tuple without parentheses.
+    Line(usize),
+    /// The whole phrase, which may not.
+    Lone,
+    Group(usize),
+    Index(usize),
+    Listed(usize),
+    /// A key of a dictionary is wanted.
+    Entry(usize),
+    Value(usize),
+    Call(usize),
+    /// The value of a keyword argument is wanted.
+    Key(&'a Text),
+    /// Behind a keyword argument and its comma.
+    Named(&'a Text),
+    Sign(UnaryOp),
+    Product(BinaryOp),
+    Sum(BinaryOp),
+    Compare(CompareOp),
+    Negation,
+    And,
+    Or,
+    /// Behind `if`.
+    Test,
+    /// Behind `else`.
+    Other,
+}
+
+/// A step of building trees on a stack of trees.
+#[derive(Clone, Copy)]
+pub enum Step<'a> {
+    PutName(&'a Text),
+    PutInt(u128),
+    PutText(&'a Text),
+    /// To the text on the stack.
+    JoinText(&'a Text),
+    PutConstant(Const),
+    /// The tree on the stack stands in parentheses.
+    Grouped,
+    MakeTuple(usize),
+    MakeList(usize),
+    /// Of that many keys with their values.
+    MakeDict(usize),
+    MakeUnary(UnaryOp),
+    MakeBinary(BinaryOp),
+    MakeCompare(CompareOp),
+    MakeIs(bool, Const),
+    MakeNot,
+    MakeAnd,
+    MakeOr,
+    MakeCond,
+    MakeAttr(&'a Text),
+    MakeIndex,
+    /// Of that many arguments, and of that many names with their values.
+    MakeCall(usize, usize),
+}
+
+/// What may come next.
+#[derive(Clone, Copy)]
+pub enum Mode {
+    /// An expression is wanted.
+    Want,
+    /// An expression is wanted, or the bracket closes.
+    Next,
+    /// A primary has been read.
+    Have,
+    /// Behind a dot.
+    Dotted,
+    /// Behind the `not` of `not in`.
+    NotIn,
+    /// Behind `is`.
+    Is,
+    /// Behind `is not`.
+    IsNot,
+    /// A comparison with a constant has been read.
+    Compared,
+}
+
+/// The whole that is read.
+#[derive(Clone, Copy)]
+pub enum Whole {
+    /// An expression, or a tuple without parentheses.
+    List,
+    /// An expression.
+    Lone,
+}
