@@ -117,7 +117,7 @@ bracket_many (suc k) fs o h = refl
 
 -- ---- keyword arguments
 
-abbrev names_of : Keywords → List Text
+abbrev pub names_of : Keywords → List Text
 names_of x.end_of_keywords = []
 names_of (x.more_keywords (x.Named n e) ks) = n ∷ names_of ks
 
