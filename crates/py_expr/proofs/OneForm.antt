@@ -14,13 +14,10 @@ use Rattle.py_expr.specs.Grammar.{Tokens, Level, P, E, L, Spells}
 use Rattle.py_expr.specs.Ends.{IsEnd}
 use Rattle.py_expr.specs.Lines as l
 use Rattle.py_expr.specs.Lines.{Augmented, Many, Names, Place, Assigned, Annotation, Default, Parameter, Parameters, Result, Base, HeadAt, Item, ImportItems, Taken, Value, Simple, Line}
+use Rattle.py_expr.specs.LineEnds.{EndsNames, EndsParameter, EndsAnnotation, EndsItem, EndsItems}
+use Rattle.py_expr.specs.Readings.{Same}
 use Rattle.py_expr.specs.Forms as form
 use Rattle.py_expr.specs.Forms.{Form, Head}
-
--- the same thing, with the same behind it
-pub record Same {A : Type 0} (a b : A) (r q : Tokens) : Type 0 where
-  pub thing : a ≡ b
-  pub rest : r ≡ q
 
 -- what one_front says of phrases
 abbrev pub OneFront : Type 0
@@ -90,12 +87,6 @@ begins (g.a_tuple d i) = begins d
 begins (g.single d) = begins d
 
 -- ---- names
-
--- neither a name nor a comma stands there
-abbrev pub EndsNames : Tokens → Type 0
-EndsNames (token.Name n ∷ r) = ⊥
-EndsNames (token.Mark mark.Comma ∷ r) = ⊥
-EndsNames r = Unit {0}
 
 pub one_many : (s r q : Tokens) (ns ms : List Text) → Many s r ns → EndsNames r → Many s q ms → EndsNames q → Same ns ms r q
 one_many _ _ _ _ _ l.two_names h l.two_names i = record { thing = refl; rest = refl }
@@ -186,19 +177,6 @@ phrase_one a b h = absurd cc
 
 -- ---- ends
 
--- behind a parameter
-abbrev pub EndsParameter : Tokens → Type 0
-EndsParameter (token.Mark mark.Comma ∷ r) = Unit {0}
-EndsParameter (token.Mark mark.RightParen ∷ r) = Unit {0}
-EndsParameter _ = ⊥
-
--- behind its annotation
-abbrev pub EndsAnnotation : Tokens → Type 0
-EndsAnnotation (token.Mark mark.Equal ∷ r) = Unit {0}
-EndsAnnotation (token.Mark mark.Comma ∷ r) = Unit {0}
-EndsAnnotation (token.Mark mark.RightParen ∷ r) = Unit {0}
-EndsAnnotation _ = ⊥
-
 pub parameter_ends : (r : Tokens) → EndsParameter r → IsEnd E r
 parameter_ends (token.Mark mark.Comma ∷ r) h = tt
 parameter_ends (token.Mark mark.RightParen ∷ r) h = tt
@@ -237,25 +215,11 @@ augmented_ends r l.percent_equal = tt
 
 -- ---- imports
 
--- behind an item
-abbrev pub EndsItem : Tokens → Type 0
-EndsItem [] = Unit {0}
-EndsItem (token.Mark mark.Comma ∷ r) = Unit {0}
-EndsItem (token.Mark mark.RightParen ∷ r) = Unit {0}
-EndsItem _ = ⊥
-
 one_item : (s r q : Tokens) (a b : Import) → Item s r a → EndsItem r → Item s q b → EndsItem q → Same a b r q
 one_item _ _ _ _ _ l.an_item i l.an_item j = record { thing = refl; rest = refl }
 one_item _ _ _ _ _ l.an_item i l.an_item_as j = absurd i
 one_item _ _ _ _ _ l.an_item_as i l.an_item j = absurd j
 one_item _ _ _ _ _ l.an_item_as i l.an_item_as j = record { thing = refl; rest = refl }
-
--- behind the items
-abbrev pub EndsItems : Tokens → Type 0
-EndsItems [] = Unit {0}
-EndsItems (token.Mark mark.RightParen ∷ r) = Unit {0}
-EndsItems (token.Mark mark.Comma ∷ token.Mark mark.RightParen ∷ r) = Unit {0}
-EndsItems _ = ⊥
 
 items_end : (r : Tokens) → EndsItems r → EndsItem r
 items_end [] h = tt

@@ -8,3 +8,6 @@ pub mod Machine
 pub mod Emitted
 pub mod Views
 pub mod Phrases
+pub mod LineAnswers
+pub mod Readings
+pub mod LineEnds

@@ -2,5 +2,8 @@
 #![tactic(auto)]
 
 pub mod form;
+mod front;
 mod machine;
+mod parameters;
 pub mod phrase;
+mod reading;

@@ -1,0 +1,28 @@
+-- No definition of the language: what is known of a thing that was read at the front of tokens.
+use Rattle.std.specs.Prelude.{◌≡◌, ◌≤◌, ◌<◌, ℕ, Option, Some, None}
+use Rattle.py_expr.specs.declared.phrase.Built.{Built}
+use Rattle.py_expr.specs.declared.phrase.Built.TheVariants.{Shallow, TooDeep}
+use Rattle.py_expr.specs.declared.reading.Found.{Found}
+use Rattle.py_expr.specs.Grammar.{Tokens}
+
+-- the same thing, with the same behind it
+pub record Same {A : Type 0} (a b : A) (r q : Tokens) : Type 0 where
+  pub thing : a ≡ b
+  pub rest : r ≡ q
+
+-- what was built stands for y, where y is nested at most 200 deep
+abbrev pub IsBuilt : {T Y : Type 0} → (T → Y) → (Y → ℕ) → Y → Built T → Type 0
+IsBuilt view nesting y (Shallow t) = (nesting y ≤ 200) × (view t ≡ y)
+IsBuilt view nesting y TooDeep = 200 < nesting y
+
+-- at the front of s stands y, r follows it, and nothing else of its kind stands there with an end behind it
+pub record IsFound {T Y : Type 0} (Stands : Tokens → Tokens → Y → Type 0) (ends : Tokens → Type 0) (view : T → Y) (nesting : Y → ℕ) (s : Tokens) (tree : Built T) (r : Tokens) : Type 0 where
+  pub thing : Y
+  pub stands : Stands s r thing
+  pub only : (q : Tokens) (z : Y) → Stands s q z → ends q → Same thing z r q
+  pub is_built : IsBuilt view nesting thing tree
+
+-- what is found, or that nothing of that kind stands there with an end behind it
+abbrev pub FoundAt : {T Y : Type 0} → (Tokens → Tokens → Y → Type 0) → (Tokens → Type 0) → (T → Y) → (Y → ℕ) → Tokens → Option (Found T) → Type 0
+FoundAt Stands ends view nesting s (Some found) = IsFound Stands ends view nesting s found.built found.rest.now
+FoundAt Stands ends view nesting s None = (q : Tokens) (z : _) → Stands s q z → ends q → ⊥
