@@ -1,3 +1,5 @@
 pub mod Complete
 pub mod Sound
+pub mod Builds
+pub mod Nested
 pub mod OneForm

@@ -1,5 +1,5 @@
 -- No definition of the language: the steps of a phrase, and what steps build.
-use Rattle.std.specs.Prelude.{ℕ, zero, suc, ◌+◌, max, Bool, true, false, List, [], ◌∷◌, ◌++◌}
+use Rattle.std.specs.Prelude.{ℕ, zero, suc, ◌+◌, max, true, false, List, [], ◌∷◌, ◌++◌, Option, Some, None}
 use Rattle.py_tree.specs.Syntax as x
 use Rattle.py_tree.specs.Syntax.{Text, Expression, Expressions, Pairs, Keywords}
 use Rattle.py_tree.specs.declared.operator.Const.{Const}
@@ -84,3 +84,116 @@ abbrev mutual
   emit_keywords g.no_keyword o = o
   emit_keywords (g.last_keyword {n = n} d) o = emit d (m.PutName n ∷ o)
   emit_keywords (g.next_keyword {n = n} d i) o = emit_keywords i (emit d (m.PutName n ∷ o))
+
+-- ---- what steps build, on a stack of trees
+
+abbrev pub constant_tree : Const → Expression
+constant_tree constant.Nil = x.Nil
+constant_tree constant.True = x.True
+constant_tree constant.False = x.False
+
+abbrev pub join_text : Text → Expression → Expression
+join_text v (x.Str u) = x.Str (u ++ v)
+join_text v e = e
+
+abbrev pub on_one : (Expression → Expression) → List Expression → List Expression
+on_one make (a ∷ st) = make a ∷ st
+on_one make [] = []
+
+abbrev pub on_two : (Expression → Expression → Expression) → List Expression → List Expression
+on_two make (b ∷ a ∷ st) = make a b ∷ st
+on_two make _ = []
+
+abbrev pub on_three : (Expression → Expression → Expression → Expression) → List Expression → List Expression
+on_three make (c ∷ b ∷ a ∷ st) = make a b c ∷ st
+on_three make _ = []
+
+abbrev pub on_items : (Expressions → Expression) → ℕ → Expressions → List Expression → List Expression
+on_items make zero es st = make es ∷ st
+on_items make (suc n) es (a ∷ st) = on_items make n (x.more_expressions a es) st
+on_items make (suc n) es [] = []
+
+abbrev pub on_pairs : ℕ → Pairs → List Expression → List Expression
+on_pairs zero ps st = x.Dict ps ∷ st
+on_pairs (suc n) ps (v ∷ k ∷ st) = on_pairs n (x.more_pairs (x.Paired k v) ps) st
+on_pairs (suc n) ps _ = []
+
+abbrev pub name_in : Expression → Text
+name_in (x.Name n) = n
+name_in e = []
+
+abbrev pub on_callee : Keywords → Expressions → List Expression → List Expression
+on_callee ks es (a ∷ st) = x.Call a es ks ∷ st
+on_callee ks es [] = []
+
+abbrev pub on_arguments : ℕ → Expressions → Keywords → List Expression → List Expression
+on_arguments zero es ks st = on_callee ks es st
+on_arguments (suc n) es ks (a ∷ st) = on_arguments n (x.more_expressions a es) ks st
+on_arguments (suc n) es ks [] = []
+
+abbrev pub on_keywords : ℕ → Keywords → ℕ → List Expression → List Expression
+on_keywords zero ks n st = on_arguments n x.end_of_expressions ks st
+on_keywords (suc k) ks n (v ∷ a ∷ st) = on_keywords k (x.more_keywords (x.Named (name_in a) v) ks) n st
+on_keywords (suc k) ks n _ = []
+
+abbrev pub grow : Step → List Expression → List Expression
+grow (m.PutName n) st = x.Name n ∷ st
+grow (m.PutInt n) st = x.Int n ∷ st
+grow (m.PutText u) st = x.Str u ∷ st
+grow (m.JoinText v) st = on_one (join_text v) st
+grow (m.PutConstant k) st = constant_tree k ∷ st
+grow m.Grouped st = st
+grow (m.MakeTuple n) st = on_items x.Tuple n x.end_of_expressions st
+grow (m.MakeList n) st = on_items x.Listed n x.end_of_expressions st
+grow (m.MakeDict n) st = on_pairs n x.end_of_pairs st
+grow (m.MakeUnary op) st = on_one (x.Unary op) st
+grow (m.MakeBinary op) st = on_two (x.Binary op) st
+grow (m.MakeCompare op) st = on_two (x.Compare op) st
+grow (m.MakeIs negated k) st = on_one (λ e. x.Is negated e k) st
+grow m.MakeNot st = on_one x.Not st
+grow m.MakeAnd st = on_two x.And st
+grow m.MakeOr st = on_two x.Or st
+grow m.MakeCond st = on_three (λ a b c. x.Cond b a c) st
+grow (m.MakeAttr n) st = on_one (λ e. x.Attr e n) st
+grow m.MakeIndex st = on_two x.Index st
+grow (m.MakeCall n k) st = on_keywords k x.end_of_keywords n st
+
+-- of steps, newest first
+abbrev pub trees : Steps → List Expression
+trees [] = []
+trees (s ∷ o) = grow s (trees o)
+
+-- ---- the nestings of what steps build
+
+-- the number of trees that a step puts under one; none where it puts no node
+abbrev pub parts : Step → Option ℕ
+parts (m.JoinText v) = None
+parts m.Grouped = None
+parts (m.MakeTuple n) = Some n
+parts (m.MakeList n) = Some n
+parts (m.MakeDict n) = Some (n + n)
+parts (m.MakeUnary op) = Some 1
+parts (m.MakeBinary op) = Some 2
+parts (m.MakeCompare op) = Some 2
+parts (m.MakeIs negated k) = Some 1
+parts m.MakeNot = Some 1
+parts m.MakeAnd = Some 2
+parts m.MakeOr = Some 2
+parts m.MakeCond = Some 3
+parts (m.MakeAttr n) = Some 1
+parts m.MakeIndex = Some 2
+parts (m.MakeCall n k) = Some (k + k + n + 1)
+parts _ = Some 0
+
+abbrev pub over : ℕ → ℕ → List ℕ → List ℕ
+over zero deepest st = suc deepest ∷ st
+over (suc n) deepest (a ∷ st) = over n (max a deepest) st
+over (suc n) deepest [] = []
+
+abbrev pub nest : Option ℕ → List ℕ → List ℕ
+nest None st = st
+nest (Some n) st = over n 0 st
+
+abbrev pub nestings : Steps → List ℕ
+nestings [] = []
+nestings (s ∷ o) = nest (parts s) (nestings o)
