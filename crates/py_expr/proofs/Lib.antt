@@ -3,3 +3,5 @@ pub mod Sound
 pub mod Builds
 pub mod Nested
 pub mod OneForm
+pub mod ForNames
+pub mod NameLists

@@ -11,3 +11,4 @@ pub mod Phrases
 pub mod LineAnswers
 pub mod Readings
 pub mod LineEnds
+pub mod Readers

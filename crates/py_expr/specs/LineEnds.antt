@@ -5,6 +5,10 @@ use Rattle.py_lexer.specs.declared.token.Keyword.TheVariants as word
 use Rattle.py_lexer.specs.declared.token.Mark.TheVariants as mark
 use Rattle.py_expr.specs.Grammar.{Tokens}
 
+-- behind what ends with a token of its own
+abbrev pub Anything : Tokens → Type 0
+Anything r = Unit {0}
+
 -- behind names with commas between: neither a name nor a comma stands there
 abbrev pub EndsNames : Tokens → Type 0
 EndsNames (token.Name n ∷ r) = ⊥

@@ -1,9 +1,12 @@
 -- No definition of the language: what is known of a thing that was read at the front of tokens.
-use Rattle.std.specs.Prelude.{◌≡◌, ◌≤◌, ◌<◌, ℕ, Option, Some, None}
+use Rattle.std.specs.Prelude.{◌≡◌, ◌≤◌, ◌<◌, ℕ, ◌∷◌, Option, Some, None}
 use Rattle.py_expr.specs.declared.phrase.Built.{Built}
 use Rattle.py_expr.specs.declared.phrase.Built.TheVariants.{Shallow, TooDeep}
 use Rattle.py_expr.specs.declared.reading.Found.{Found}
-use Rattle.py_expr.specs.Grammar.{Tokens}
+use Rattle.py_tree.specs.Syntax.{Expression, Target}
+use Rattle.py_expr.specs.Tokens as t
+use Rattle.py_expr.specs.Grammar.{Tokens, Spells, E, L}
+use Rattle.py_expr.specs.Lines.{Names}
 
 -- the same thing, with the same behind it
 pub record Same {A : Type 0} (a b : A) (r q : Tokens) : Type 0 where
@@ -26,3 +29,17 @@ pub record IsFound {T Y : Type 0} (Stands : Tokens → Tokens → Y → Type 0) 
 abbrev pub FoundAt : {T Y : Type 0} → (Tokens → Tokens → Y → Type 0) → (Tokens → Type 0) → (T → Y) → (Y → ℕ) → Tokens → Option (Found T) → Type 0
 FoundAt Stands ends view nesting s (Some found) = IsFound Stands ends view nesting s found.built found.rest.now
 FoundAt Stands ends view nesting s None = (q : Tokens) (z : _) → Stands s q z → ends q → ⊥
+
+-- ---- with the token behind it
+
+abbrev pub BeforeIn : Tokens → Tokens → Target → Type 0
+BeforeIn s r g = Names s (t.in_ ∷ r) g
+
+abbrev pub InParentheses : Tokens → Tokens → Target → Type 0
+InParentheses s r g = Names (t.left_paren ∷ s) (t.in_ ∷ r) g
+
+abbrev pub BeforeColon : Tokens → Tokens → Expression → Type 0
+BeforeColon s r e = Spells E s (t.colon ∷ r) e
+
+abbrev pub ListBeforeColon : Tokens → Tokens → Expression → Type 0
+ListBeforeColon s r e = Spells L s (t.colon ∷ r) e

@@ -4,6 +4,6 @@
 pub mod form;
 mod front;
 mod machine;
-mod parameters;
+mod names;
 pub mod phrase;
 mod reading;
