@@ -8,3 +8,4 @@ pub mod Machine
 pub mod Emitted
 pub mod Views
 pub mod Phrases
+pub mod Readers

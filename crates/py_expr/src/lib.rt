@@ -3,4 +3,7 @@
 
 pub mod form;
 mod machine;
+mod operand;
+mod operator;
 pub mod phrase;
+mod reader;
