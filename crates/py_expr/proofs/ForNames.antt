@@ -13,7 +13,7 @@ use Rattle.py_expr.specs.Lines as l
 use Rattle.py_expr.specs.Lines.{Many, Names}
 use Rattle.py_expr.specs.Depth.{target_nesting}
 use Rattle.py_expr.specs.LineEnds.{Anything}
-use Rattle.py_expr.specs.Readers.{NameList, name_list, names_at, target_from}
+use Rattle.py_expr.specs.Runs.{NameList, name_list, names_at, target_from}
 use Rattle.py_expr.specs.Readings.{Same, IsFound, BeforeIn, InParentheses}
 use Rattle.py_expr.proofs.NameLists.{Shape, nothing, single, single_and_comma, several, shape, many_is_read, last_name, same_names, same_comma, same_rest}
 use Rattle.py_expr.proofs.OneForm.{behind}

@@ -4,4 +4,5 @@ pub mod Builds
 pub mod Nested
 pub mod OneForm
 pub mod ForNames
+pub mod Found
 pub mod NameLists

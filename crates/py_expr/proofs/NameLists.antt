@@ -8,7 +8,7 @@ use Rattle.py_expr.specs.Grammar.{Tokens}
 use Rattle.py_expr.specs.Lines as l
 use Rattle.py_expr.specs.Lines.{Many}
 use Rattle.py_expr.specs.LineEnds.{EndsNames}
-use Rattle.py_expr.specs.Readers.{NameList, name_list, names_at, behind_names, with_name}
+use Rattle.py_expr.specs.Runs.{NameList, name_list, names_at, behind_names, with_name}
 
 -- lists that are the same have the same parts
 pub same_names : {a b : NameList} → a ≡ b → a.names ≡ b.names

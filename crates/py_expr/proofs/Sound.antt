@@ -19,7 +19,7 @@ use Rattle.py_expr.specs.Grammar as g
 use Rattle.py_expr.specs.Grammar.{Tokens, Level, P, U, M, S, C, N, A, O, E, L, Spells, Joined, Items, Entries, Arguments, KeywordsAt, distinct}
 use Rattle.py_expr.specs.Ends.{IsEnd, EndsList, EndsLone}
 use Rattle.py_expr.specs.Machine as m
-use Rattle.py_expr.specs.Machine.{Frame, Frames, Step, Steps, Mode, State, Done, Read, state, done, wants, wants_behind, makes, made, close, after, negation, operand, operand_or_end, no_repeats, called, call, paren_after_comma, bracket_after_comma, brace_after_comma, left_of, stands_at, push, operator, operator_if, tight_or_follow, tight, loose, compared_by, other, comma, listed, paren, bracket, brace, colon, in_call, named, equal, joined, follow, behind, dotted, not_in, constant_of, is_constant, is, step, ended, ended_at, ended_after_comma, finish, read_to, with_rest, ends, stop, go_on, run, bottom, read}
+use Rattle.py_expr.specs.Machine.{Frame, Frames, Step, Steps, Mode, State, Done, Read, state, done, wants, wants_behind, makes, made, close, after, negation, operand, operand_or_end, no_repeats, called, call, paren_after_comma, bracket_after_comma, brace_after_comma, left_of, stands_at, push, tight, loose, compared_by, other, comma, listed, paren, bracket, brace, colon, in_call, named, equal, joined, follow, behind, dotted, not_in, constant_of, is_constant, is, step, ended, ended_at, ended_after_comma, finish, read_to, with_rest, ends, stop, go_on, run, bottom, read}
 use Rattle.py_expr.specs.Emitted.{count, count_pairs, count_keywords, emit, emit_text, emit_items, emit_entries, emit_arguments, emit_keywords}
 use Rattle.py_expr.proofs.Complete.{rank, names_of, distinct_is, names_length}
 

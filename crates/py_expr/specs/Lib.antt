@@ -8,7 +8,8 @@ pub mod Machine
 pub mod Emitted
 pub mod Views
 pub mod Phrases
+pub mod Readers
 pub mod LineAnswers
 pub mod Readings
 pub mod LineEnds
-pub mod Readers
+pub mod Runs

@@ -310,34 +310,69 @@ joined v fs (PutText u ∷ o) = Some (state Have fs (JoinText v ∷ PutText u �
 joined v fs (JoinText u ∷ o) = Some (state Have fs (JoinText v ∷ JoinText u ∷ o))
 joined v fs _ = None
 
-abbrev pub operator_if : Option Frame → Frames → Steps → Option State
-operator_if (Some f) fs o = operator f fs o
-operator_if None fs o = None
+abbrev pub push_if : Option Frame → Frames → Steps → Option State
+push_if (Some f) fs o = push f fs o
+push_if None fs o = None
+
+-- the level that ends before the token, if it ends one
+abbrev pub left_of_if : Option Frame → Option ℕ
+left_of_if (Some f) = Some (left_of f)
+left_of_if None = None
+
+abbrev pub or_left_of : Option Frame → Option ℕ → Option ℕ
+or_left_of (Some f) level = Some (left_of f)
+or_left_of None level = level
+
+abbrev pub closes_before : Token → Option ℕ
+closes_before (token.Word word.Not) = Some 3
+closes_before (token.Word word.Is) = Some 3
+closes_before (token.Word word.Else) = Some 7
+closes_before (token.Mark mark.Comma) = Some 8
+closes_before (token.Mark mark.RightParen) = Some 8
+closes_before (token.Mark mark.RightBracket) = Some 8
+closes_before (token.Mark mark.RightBrace) = Some 8
+closes_before (token.Mark mark.Colon) = Some 8
+closes_before token = or_left_of (tight token) (left_of_if (loose token))
+
+abbrev pub close_if : Option ℕ → Frames → Steps → Done
+close_if (Some level) fs o = close level fs o
+close_if None fs o = done fs o
+
+abbrev pub closed_before : Token → Frames → Steps → Done
+closed_before token fs o = close_if (closes_before token) fs o
+
+-- behind a comparison that has been closed
+abbrev pub goes_loose : Token → Frames → Steps → Option State
+goes_loose (token.Word word.Else) fs o = other fs o
+goes_loose (token.Mark mark.Comma) fs o = comma fs o
+goes_loose (token.Mark mark.RightParen) fs o = paren fs o
+goes_loose (token.Mark mark.RightBracket) fs o = bracket fs o
+goes_loose (token.Mark mark.RightBrace) fs o = brace fs o
+goes_loose (token.Mark mark.Colon) fs o = colon fs o
+goes_loose token fs o = push_if (loose token) fs o
+
+abbrev pub goes_tight : Option Frame → Token → Frames → Steps → Option State
+goes_tight (Some f) token fs o = push f fs o
+goes_tight None token fs o = goes_loose token fs o
+
+-- behind a primary that has been closed
+abbrev pub goes : Token → Frames → Steps → Option State
+goes (token.Str v) fs o = joined v fs o
+goes (token.Mark mark.Dot) fs o = Some (state Dotted fs o)
+goes (token.Mark mark.LeftBracket) fs o = Some (state Next (Index 0 ∷ fs) o)
+goes (token.Mark mark.LeftParen) fs o = Some (state Next (Call 0 ∷ fs) o)
+goes (token.Mark mark.Equal) fs o = equal fs o
+goes (token.Word word.Not) fs o = compared_by NotIn fs o
+goes (token.Word word.Is) fs o = compared_by Is fs o
+goes token fs o = goes_tight (tight token) token fs o
 
 -- behind a comparison
 abbrev pub follow : Frames → Steps → Token → Option State
-follow fs o (token.Word word.Else) = after other (close 7 fs o)
-follow fs o (token.Mark mark.Comma) = after comma (close 8 fs o)
-follow fs o (token.Mark mark.RightParen) = after paren (close 8 fs o)
-follow fs o (token.Mark mark.RightBracket) = after bracket (close 8 fs o)
-follow fs o (token.Mark mark.RightBrace) = after brace (close 8 fs o)
-follow fs o (token.Mark mark.Colon) = after colon (close 8 fs o)
-follow fs o token = operator_if (loose token) fs o
-
-abbrev pub tight_or_follow : Option Frame → Frames → Steps → Token → Option State
-tight_or_follow (Some f) fs o token = operator f fs o
-tight_or_follow None fs o token = follow fs o token
+follow fs o token = after (goes_loose token) (closed_before token fs o)
 
 -- behind a primary
 abbrev pub behind : Frames → Steps → Token → Option State
-behind fs o (token.Str v) = joined v fs o
-behind fs o (token.Mark mark.Dot) = Some (state Dotted fs o)
-behind fs o (token.Mark mark.LeftBracket) = Some (state Next (Index 0 ∷ fs) o)
-behind fs o (token.Mark mark.LeftParen) = Some (state Next (Call 0 ∷ fs) o)
-behind fs o (token.Mark mark.Equal) = equal fs o
-behind fs o (token.Word word.Not) = after (compared_by NotIn) (close 3 fs o)
-behind fs o (token.Word word.Is) = after (compared_by Is) (close 3 fs o)
-behind fs o token = tight_or_follow (tight token) fs o token
+behind fs o token = after (goes token) (closed_before token fs o)
 
 abbrev pub dotted : Frames → Steps → Token → Option State
 dotted fs o (token.Name n) = Some (state Have fs (MakeAttr n ∷ o))

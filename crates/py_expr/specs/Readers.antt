@@ -1,50 +1,16 @@
--- No definition of the language: names and import items, read from the front of tokens as far as they go.
-use Rattle.std.specs.Prelude.{Bool, true, false, List, [], ◌∷◌, ◌++◌, Option, Some, None}
-use Rattle.py_tree.specs.Syntax.{Text, Target, ToName, ToNames}
-use Rattle.py_tree.specs.declared.statement.Import.{Import}
-use Rattle.py_lexer.specs.declared.token.Token.TheVariants as token
-use Rattle.py_lexer.specs.declared.token.Keyword.TheVariants as word
-use Rattle.py_lexer.specs.declared.token.Mark.TheVariants as mark
-use Rattle.py_expr.specs.Grammar.{Tokens}
+-- No definition of the language: what the code keeps as the machine keeps it, and what it does with a token as the machine does.
+use Rattle.std.specs.Prelude.{◌≡◌, Option}
+use Rattle.py_expr.specs.declared.machine.Mode.{Mode}
+use Rattle.py_expr.specs.declared.reader.Reader.{Reader}
+use Rattle.py_expr.specs.Machine.{Frames, Steps, State, Done, done}
+use Rattle.py_expr.specs.Views.{frames_of, steps_of, maybe_mode, Moved, moved}
 
--- names with commas between, whether a comma stands behind the last, and what follows
-pub record NameList : Type 0 where
-  pub names : List Text
-  pub comma : Bool
-  pub rest : Tokens
+abbrev pub kept : Reader → Done
+kept r = done (frames_of r.frames.items) (steps_of r.steps.items)
 
-abbrev pub name_list : List Text → Bool → Tokens → NameList
-name_list names comma rest = record { names = names; comma = comma; rest = rest }
+abbrev pub moved_to : Option Mode → Reader → Moved
+moved_to next r = record { next = maybe_mode next; frames = frames_of r.frames.items; steps = steps_of r.steps.items }
 
-abbrev pub with_name : Text → NameList → NameList
-with_name name l = record l { names = name ∷ l.names }
-
--- behind a comma, or at the beginning
-abbrev pub names_at : Bool → Tokens → NameList
-names_at comma (token.Name n ∷ token.Mark mark.Comma ∷ s) = with_name n (names_at true s)
-names_at comma (token.Name n ∷ s) = name_list (n ∷ []) false s
-names_at comma s = name_list [] comma s
-
--- the target that the names are
-abbrev pub target_from : Bool → List Text → Option Target
-target_from comma [] = None
-target_from false (a ∷ []) = Some (ToName a)
-target_from true (a ∷ []) = None
-target_from comma (a ∷ b ∷ names) = Some (ToNames (a ∷ b ∷ names))
-
--- an import item, and what follows it
-pub record ItemRead : Type 0 where
-  pub item : Import
-  pub rest : Tokens
-
-abbrev pub item_read : Import → Tokens → ItemRead
-item_read i rest = record { item = i; rest = rest }
-
-abbrev pub item_at : Tokens → Option ItemRead
-item_at (token.Name n ∷ token.Word word.As ∷ token.Name a ∷ s) = Some (item_read (record { name = n; alias = Some a }) s)
-item_at (token.Name n ∷ s) = Some (item_read (record { name = n; alias = None }) s)
-item_at s = None
-
--- behind these names
-abbrev pub behind_names : List Text → NameList → NameList
-behind_names names l = record l { names = names ++ l.names }
+-- from the old reader to the new one as the machine's function does, and nothing is changed where that gives None
+abbrev pub Acts : (Frames → Steps → Option State) → Reader → Reader → Option Mode → Type 0
+Acts act old new next = moved_to next new ≡ moved (act (frames_of old.frames.items) (steps_of old.steps.items)) (frames_of old.frames.items) (steps_of old.steps.items)

@@ -43,3 +43,9 @@ BeforeColon s r e = Spells E s (t.colon ∷ r) e
 
 abbrev pub ListBeforeColon : Tokens → Tokens → Expression → Type 0
 ListBeforeColon s r e = Spells L s (t.colon ∷ r) e
+
+-- ---- what is built of what was built
+
+abbrev pub built_on : {A B : Type 0} → (A → B) → Built A → Built B
+built_on make (Shallow a) = Shallow (make a)
+built_on make TooDeep = TooDeep

@@ -2,6 +2,13 @@
 use Rattle.std.specs.Prelude.{ℕ, Bool, List, [], ◌∷◌, map, reverse, Option, Some, None}
 use Rattle.py_expr.specs.declared.machine.Step as code_step
 use Rattle.py_expr.specs.declared.machine.Step.TheVariants as s
+use Rattle.py_expr.specs.declared.machine.Frame as code_frame
+use Rattle.py_expr.specs.declared.machine.Frame.TheVariants as f
+use Rattle.py_expr.specs.declared.machine.Mode as code_mode
+use Rattle.py_expr.specs.declared.machine.Mode.TheVariants as d
+use Rattle.py_expr.specs.declared.machine.Whole as code_whole
+use Rattle.py_expr.specs.declared.machine.Whole.TheVariants as w
+use Rattle.py_expr.specs.Grammar.{Level, E, L}
 use Rattle.py_expr.specs.Machine as m
 
 abbrev pub step_of : code_step.Step → m.Step
@@ -29,3 +36,71 @@ step_of (s.MakeCall n k) = m.MakeCall n k
 -- newest first
 abbrev pub steps_of : List code_step.Step → m.Steps
 steps_of steps = map step_of (reverse steps)
+
+abbrev pub frame_of : code_frame.Frame → m.Frame
+frame_of (f.Line n) = m.Line n
+frame_of f.Lone = m.Lone
+frame_of (f.Group n) = m.Group n
+frame_of (f.Index n) = m.Index n
+frame_of (f.Listed n) = m.Listed n
+frame_of (f.Entry n) = m.Entry n
+frame_of (f.Value n) = m.Value n
+frame_of (f.Call n) = m.Call n
+frame_of (f.Key name) = m.Key name.now
+frame_of (f.Named name) = m.Named name.now
+frame_of (f.Sign op) = m.Sign op
+frame_of (f.Product op) = m.Product op
+frame_of (f.Sum op) = m.Sum op
+frame_of (f.Compare op) = m.Compare op
+frame_of f.Negation = m.Negation
+frame_of f.And = m.And
+frame_of f.Or = m.Or
+frame_of f.Test = m.Test
+frame_of f.Other = m.Other
+
+abbrev pub frames_of : List code_frame.Frame → m.Frames
+frames_of frames = map frame_of (reverse frames)
+
+abbrev pub maybe_frame : Option code_frame.Frame → Option m.Frame
+maybe_frame None = None
+maybe_frame (Some frame) = Some (frame_of frame)
+
+abbrev pub maybe_step : Option code_step.Step → Option m.Step
+maybe_step None = None
+maybe_step (Some step) = Some (step_of step)
+
+abbrev pub mode_of : code_mode.Mode → m.Mode
+mode_of d.Want = m.Want
+mode_of d.Next = m.Next
+mode_of d.Have = m.Have
+mode_of d.Dotted = m.Dotted
+mode_of d.NotIn = m.NotIn
+mode_of d.Is = m.Is
+mode_of d.IsNot = m.IsNot
+mode_of d.Compared = m.Compared
+
+abbrev pub maybe_mode : Option code_mode.Mode → Option m.Mode
+maybe_mode None = None
+maybe_mode (Some mode) = Some (mode_of mode)
+
+abbrev pub level_of : code_whole.Whole → Level
+level_of w.List = L
+level_of w.Lone = E
+
+abbrev pub top : {A : Type 0} → List A → Option A
+top [] = None
+top (a ∷ st) = Some a
+
+abbrev pub rest : {A : Type 0} → List A → List A
+rest [] = []
+rest (a ∷ st) = st
+
+-- where the machine stands behind a token: with no mode, where it stood
+pub record Moved : Type 0 where
+  pub next : Option m.Mode
+  pub frames : m.Frames
+  pub steps : m.Steps
+
+abbrev pub moved : Option m.State → m.Frames → m.Steps → Moved
+moved None fs o = record { next = None; frames = fs; steps = o }
+moved (Some s) fs o = record { next = Some s.mode; frames = s.frames; steps = s.steps }

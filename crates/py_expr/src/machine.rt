@@ -1,4 +1,7 @@
-use py_lexer::token::Token;
+ghost use Rattle.std.specs.Prelude.{◌≡◌};
+ghost use Rattle.py_expr.specs.Machine as m;
+ghost use Rattle.py_expr.specs.Views.{frame_of};
+
 use py_tree::operator::{BinaryOp, CompareOp, Const, UnaryOp};
 use py_tree::text::Text;
 
@@ -31,6 +34,66 @@ pub enum Frame<'a> {
     Test,
     /// Behind `else`.
     Other,
+}
+
+impl<'a> Frame<'a> {
+    /// The loosest level that may stand behind it. Levels go from 1, of a sign, to 8, of an expression.
+    pub fn wants(self) -> u8
+        ensures { result ≡ m.wants_behind (frame_of self.entry) }
+    {
+        match self {
+            Frame::Sign(_) | Frame::Product(_) => 1,
+            Frame::Sum(_) => 2,
+            Frame::Compare(_) => 3,
+            Frame::Negation | Frame::And => 5,
+            Frame::Or => 6,
+            Frame::Test => 7,
+            _ => 8,
+        }
+    }
+
+    /// The level of what it makes with its last operand, and 9 where its end is a token.
+    pub fn makes(self) -> u8
+        ensures { result ≡ m.makes (frame_of self.entry) }
+    {
+        match self {
+            Frame::Sign(_) => 1,
+            Frame::Product(_) => 2,
+            Frame::Sum(_) => 3,
+            Frame::Compare(_) => 4,
+            Frame::Negation => 5,
+            Frame::And => 6,
+            Frame::Or => 7,
+            Frame::Other => 8,
+            _ => 9,
+        }
+    }
+
+    /// The level of its left operand.
+    pub fn left(self) -> u8
+        ensures { result ≡ m.left_of (frame_of self.entry) }
+    {
+        match self {
+            Frame::Product(_) => 2,
+            Frame::Sum(_) | Frame::Compare(_) => 3,
+            Frame::And => 6,
+            _ => 7,
+        }
+    }
+
+    /// The level that must be wanted where what it makes stands.
+    pub fn stands(self) -> u8
+        ensures { result ≡ m.stands_at (frame_of self.entry) }
+    {
+        match self {
+            Frame::Product(_) => 2,
+            Frame::Sum(_) => 3,
+            Frame::Compare(_) => 4,
+            Frame::And => 6,
+            Frame::Or => 7,
+            _ => 8,
+        }
+    }
 }
 
 /// A step of building trees on a stack of trees.

@@ -5,7 +5,7 @@ ghost use Rattle.py_tree.specs.Joined.{target_of};
 ghost use Rattle.py_expr.specs.Depth.{target_nesting};
 ghost use Rattle.py_expr.specs.Grammar.{Tokens};
 ghost use Rattle.py_expr.specs.LineEnds.{Anything};
-ghost use Rattle.py_expr.specs.Readers as spec;
+ghost use Rattle.py_expr.specs.Runs as spec;
 ghost use Rattle.py_expr.specs.Readings.{FoundAt, BeforeIn, InParentheses};
 
 use crate::front::{after_mark, after_name, after_word};

@@ -1,5 +1,5 @@
 use Rattle.std.proofs.Common.{◌≡◌, false, length}
-use Rattle.py_expr.specs.Readers as spec
+use Rattle.py_expr.specs.Runs as spec
 use Rattle.py_expr.proofs.names.names_at.Given as goal
 
 abbrev pub invariant-loop-name : goal.invariant-loop-name

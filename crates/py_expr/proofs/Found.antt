@@ -1,0 +1,146 @@
+-- What is found of phrases, and of what has them in it.
+use Rattle.std.proofs.Common.{◌≡◌, ◌≤◌, ◌<◌, ℕ, max, List, [], ◌∷◌, Option, Some, None, refl, sym, ap, subst, ◌∙◌, arith}
+use Rattle.py_tree.specs.Syntax as syntax
+use Rattle.py_tree.specs.Syntax.{Text, Expression, Param}
+use Rattle.py_tree.specs.Nesting.{nesting}
+use Rattle.py_tree.specs.Joined.{expression_of, maybe_of}
+use Rattle.py_tree.specs.declared.expression.Expr.{Expr}
+use Rattle.py_lexer.specs.declared.token.Token.TheVariants as token
+use Rattle.py_expr.specs.declared.phrase.Phrase.{Phrase}
+use Rattle.py_expr.specs.declared.phrase.Built.{Built}
+use Rattle.py_expr.specs.declared.phrase.Built.TheVariants.{Shallow, TooDeep}
+use Rattle.py_expr.specs.Tokens as t
+use Rattle.py_expr.specs.Grammar.{Tokens, Level, E, L, Spells}
+use Rattle.py_expr.specs.Ends.{IsEnd}
+use Rattle.py_expr.specs.Phrases.{Is, AtFront, IsExpression, BuildsExpression}
+use Rattle.py_expr.specs.Lines as l
+use Rattle.py_expr.specs.Lines.{Annotation, Default, Parameter, Result}
+use Rattle.py_expr.specs.LineEnds.{Anything, EndsAnnotation, EndsParameter}
+use Rattle.py_expr.specs.Depth.{maybe_nesting, param_nesting}
+use Rattle.py_expr.specs.Readings.{Same, IsBuilt, IsFound, BeforeColon, ListBeforeColon, built_on}
+use Rattle.py_expr.proofs.OneForm.{behind, annotation_ends, parameter_ends, default_begins}
+use Rattle.py_expr.proofs.Builds.{one_front}
+
+expression_built : (e : Expression) (b : Built Expr) → IsExpression e b → IsBuilt expression_of nesting e b
+expression_built e (Shallow tree) h = h
+expression_built e TooDeep h = h
+
+-- a phrase
+pub phrase_found : (k : Level) (s : Tokens) (phrase : Phrase) (b : Built Expr) → AtFront k s (Some phrase) → BuildsExpression phrase b → IsFound (Spells k) (IsEnd k) expression_of nesting s b phrase.rest.now
+phrase_found k s phrase b h builds =
+    let e : Expression = h.0 in
+    let is : Is phrase k s phrase.rest.now e = h.1 in
+    record {
+      thing = e;
+      stands = is.spells;
+      only = λ q z d i. let x = one_front is.spells is.ends d i in record { thing = x.tree; rest = x.rest };
+      is_built = expression_built e b (builds k s phrase.rest.now e is);
+    }
+
+-- an expression with a colon behind it
+pub before_colon : (s r m : Tokens) (b : Built Expr) → IsFound (Spells E) (IsEnd E) expression_of nesting s b r → r ≡ t.colon ∷ m → IsFound BeforeColon Anything expression_of nesting s b m
+before_colon s r m b f h =
+    record {
+      thing = f.thing;
+      stands = subst (λ z. Spells E s z f.thing) h f.stands;
+      only = λ q z d i. let x = f.only (t.colon ∷ q) z d tt in record { thing = x.thing; rest = ap behind (sym h ∙ x.rest) };
+      is_built = f.is_built;
+    }
+
+pub no_colon_behind : (s r : Tokens) (b : Built Expr) → IsFound (Spells E) (IsEnd E) expression_of nesting s b r → ((m : Tokens) → r ≡ t.colon ∷ m → ⊥) → (q : Tokens) (z : Expression) → BeforeColon s q z → Anything q → ⊥
+no_colon_behind s r b f h q z d i = h q (f.only (t.colon ∷ q) z d tt).rest
+
+pub list_before : (s r m : Tokens) (b : Built Expr) → IsFound (Spells L) (IsEnd L) expression_of nesting s b r → r ≡ t.colon ∷ m → IsFound ListBeforeColon Anything expression_of nesting s b m
+list_before s r m b f h =
+    record {
+      thing = f.thing;
+      stands = subst (λ z. Spells L s z f.thing) h f.stands;
+      only = λ q z d i. let x = f.only (t.colon ∷ q) z d tt in record { thing = x.thing; rest = ap behind (sym h ∙ x.rest) };
+      is_built = f.is_built;
+    }
+
+pub no_list_before : (s r : Tokens) (b : Built Expr) → IsFound (Spells L) (IsEnd L) expression_of nesting s b r → ((m : Tokens) → r ≡ t.colon ∷ m → ⊥) → (q : Tokens) (z : Expression) → ListBeforeColon s q z → Anything q → ⊥
+no_list_before s r b f h q z d i = h q (f.only (t.colon ∷ q) z d tt).rest
+
+-- ---- annotations, defaults and results
+
+some_built : (e : Expression) (b : Built Expr) → IsBuilt expression_of nesting e b → IsBuilt maybe_of maybe_nesting (Some e) (built_on Some b)
+some_built e (Shallow tree) h = (h.0, ap Some h.1)
+some_built e TooDeep h = h
+
+none_built : IsBuilt maybe_of maybe_nesting None (Shallow None)
+none_built = (omega arith, refl)
+
+pub annotated_found : (s m r : Tokens) (b : Built Expr) → s ≡ t.colon ∷ m → IsFound (Spells E) (IsEnd E) expression_of nesting m b r → IsFound Annotation EndsAnnotation maybe_of maybe_nesting s (built_on Some b) r
+annotated_found s m r b h f =
+    subst (λ y. IsFound Annotation EndsAnnotation maybe_of maybe_nesting y (built_on Some b) r) (sym h) (record {
+      thing = Some f.thing;
+      stands = l.annotated f.stands;
+      only = λ q z d i. only_annotated q z d i;
+      is_built = some_built f.thing b f.is_built;
+    }) where
+  only_annotated : (q : Tokens) (z : Option Expression) → Annotation (t.colon ∷ m) q z → EndsAnnotation q → Same (Some f.thing) z r q
+  only_annotated q _ l.unannotated i = absurd i
+  only_annotated q _ (l.annotated {e = e} d) i = let x = f.only q e d (annotation_ends q i) in record { thing = ap Some x.thing; rest = x.rest }
+
+pub not_annotated : (s m : Tokens) → s ≡ t.colon ∷ m → ((q : Tokens) (z : Expression) → Spells E m q z → IsEnd E q → ⊥) → (q : Tokens) (z : Option Expression) → Annotation s q z → EndsAnnotation q → ⊥
+not_annotated s m h none q z d i = only_annotated q z (subst (λ y. Annotation y q z) h d) i where
+  only_annotated : (q : Tokens) (z : Option Expression) → Annotation (t.colon ∷ m) q z → EndsAnnotation q → ⊥
+  only_annotated q _ l.unannotated i = i
+  only_annotated q _ (l.annotated {e = e} d) i = none q e d (annotation_ends q i)
+
+pub unannotated_found : (s : Tokens) → ((m : Tokens) → s ≡ t.colon ∷ m → ⊥) → IsFound Annotation EndsAnnotation maybe_of maybe_nesting s (Shallow None) s
+unannotated_found s h = record { thing = None; stands = l.unannotated; only = λ q z d i. only_none s q z h d; is_built = none_built } where
+  only_none : (s q : Tokens) (z : Option Expression) → ((m : Tokens) → s ≡ t.colon ∷ m → ⊥) → Annotation s q z → Same None z s q
+  only_none s _ _ h l.unannotated = record { thing = refl; rest = refl }
+  only_none _ _ _ h (l.annotated {s = s} d) = absurd (h s refl)
+
+pub default_found : (s m r : Tokens) (b : Built Expr) → s ≡ t.equal ∷ m → IsFound (Spells E) (IsEnd E) expression_of nesting m b r → IsFound Default EndsParameter maybe_of maybe_nesting s (built_on Some b) r
+default_found s m r b h f =
+    subst (λ y. IsFound Default EndsParameter maybe_of maybe_nesting y (built_on Some b) r) (sym h) (record {
+      thing = Some f.thing;
+      stands = l.a_default f.stands;
+      only = λ q z d i. only_default q z d i;
+      is_built = some_built f.thing b f.is_built;
+    }) where
+  only_default : (q : Tokens) (z : Option Expression) → Default (t.equal ∷ m) q z → EndsParameter q → Same (Some f.thing) z r q
+  only_default q _ l.no_default i = absurd i
+  only_default q _ (l.a_default {e = e} d) i = let x = f.only q e d (parameter_ends q i) in record { thing = ap Some x.thing; rest = x.rest }
+
+pub not_default : (s m : Tokens) → s ≡ t.equal ∷ m → ((q : Tokens) (z : Expression) → Spells E m q z → IsEnd E q → ⊥) → (q : Tokens) (z : Option Expression) → Default s q z → EndsParameter q → ⊥
+not_default s m h none q z d i = only_default q z (subst (λ y. Default y q z) h d) i where
+  only_default : (q : Tokens) (z : Option Expression) → Default (t.equal ∷ m) q z → EndsParameter q → ⊥
+  only_default q _ l.no_default i = i
+  only_default q _ (l.a_default {e = e} d) i = none q e d (parameter_ends q i)
+
+pub no_default_found : (s : Tokens) → ((m : Tokens) → s ≡ t.equal ∷ m → ⊥) → IsFound Default EndsParameter maybe_of maybe_nesting s (Shallow None) s
+no_default_found s h = record { thing = None; stands = l.no_default; only = λ q z d i. only_none s q z h d; is_built = none_built } where
+  only_none : (s q : Tokens) (z : Option Expression) → ((m : Tokens) → s ≡ t.equal ∷ m → ⊥) → Default s q z → Same None z s q
+  only_none s _ _ h l.no_default = record { thing = refl; rest = refl }
+  only_none _ _ _ h (l.a_default {s = s} d) = absurd (h s refl)
+
+pub result_found : (s m r : Tokens) (b : Built Expr) → s ≡ t.arrow ∷ m → IsFound BeforeColon Anything expression_of nesting m b r → IsFound Result Anything maybe_of maybe_nesting s (built_on Some b) r
+result_found s m r b h f =
+    subst (λ y. IsFound Result Anything maybe_of maybe_nesting y (built_on Some b) r) (sym h) (record {
+      thing = Some f.thing;
+      stands = l.a_result f.stands;
+      only = λ q z d i. only_result q z d;
+      is_built = some_built f.thing b f.is_built;
+    }) where
+  only_result : (q : Tokens) (z : Option Expression) → Result (t.arrow ∷ m) q z → Same (Some f.thing) z r q
+  only_result q _ (l.a_result {e = e} d) = let x = f.only q e d tt in record { thing = ap Some x.thing; rest = x.rest }
+
+pub no_result_found : (s m : Tokens) → s ≡ t.colon ∷ m → IsFound Result Anything maybe_of maybe_nesting s (Shallow None) m
+no_result_found s m h =
+    subst (λ y. IsFound Result Anything maybe_of maybe_nesting y (Shallow None) m) (sym h) (record { thing = None; stands = l.no_result; only = λ q z d i. only_none q z d; is_built = none_built }) where
+  only_none : (q : Tokens) (z : Option Expression) → Result (t.colon ∷ m) q z → Same None z m q
+  only_none q _ l.no_result = record { thing = refl; rest = refl }
+
+pub not_result : (s m : Tokens) → s ≡ t.arrow ∷ m → ((q : Tokens) (z : Expression) → BeforeColon m q z → Anything q → ⊥) → (q : Tokens) (z : Option Expression) → Result s q z → Anything q → ⊥
+not_result s m h none q z d i = only_result q z (subst (λ y. Result y q z) h d) where
+  only_result : (q : Tokens) (z : Option Expression) → Result (t.arrow ∷ m) q z → ⊥
+  only_result q _ (l.a_result {e = e} d) = none q e d tt
+
+pub no_result : (s : Tokens) → ((m : Tokens) → s ≡ t.colon ∷ m → ⊥) → ((m : Tokens) → s ≡ t.arrow ∷ m → ⊥) → (q : Tokens) (z : Option Expression) → Result s q z → Anything q → ⊥
+no_result _ h k q _ l.no_result i = h q refl
+no_result _ h k q _ (l.a_result {s = s} d) i = k s refl

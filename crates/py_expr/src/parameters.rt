@@ -1,0 +1,121 @@
+ghost use Rattle.std.specs.Prelude.{◌≡◌, IfOk, Some, None};
+ghost use Rattle.py_tree.specs.Joined.{maybe_of, param_of};
+ghost use Rattle.py_tree.specs.Syntax.{Text, Expression};
+ghost use Rattle.py_expr.specs.Lines.{Annotation, Default, Parameter, Parameters, Result};
+ghost use Rattle.py_expr.specs.LineEnds.{Anything, EndsAnnotation, EndsParameter};
+ghost use Rattle.py_expr.specs.Depth.{maybe_nesting, param_nesting};
+ghost use Rattle.py_expr.specs.Readings.{FoundAt, IsBuilt, built_on};
+ghost use Rattle.py_expr.specs.declared.phrase.Built.TheVariants as Built;
+
+use crate::expressions::{expression, expression_before_colon};
+use crate::front::{after_mark, after_name};
+use crate::phrase::Built;
+use crate::reading::{Found, Reading};
+use py_lexer::token::{Mark, Token};
+use py_tree::expression::{Expr, Param};
+use py_tree::text::Text;
+use std::alloc::{AllocError, Global};
+
+/// `[":" E]`
+fn annotation<'a>(alloc: Global, tokens: &'a [Token]) -> Reading<'a, Option<Expr>>
+    ensures { IfOk result (λ found. FoundAt Annotation EndsAnnotation maybe_of maybe_nesting tokens.now found) }
+{
+    let Some(rest) = after_mark(tokens, Mark::Colon) else {
+        return Ok(Some(absent(tokens)));
+    };
+    match expression(alloc, rest)? {
+        Some(found) => Ok(Some(present(found))),
+        None => Ok(None),
+    }
+}
+
+/// `["=" E]`
+fn default<'a>(alloc: Global, tokens: &'a [Token]) -> Reading<'a, Option<Expr>>
+    ensures { IfOk result (λ found. FoundAt Default EndsParameter maybe_of maybe_nesting tokens.now found) }
+{
+    let Some(rest) = after_mark(tokens, Mark::Equal) else {
+        return Ok(Some(absent(tokens)));
+    };
+    match expression(alloc, rest)? {
+        Some(found) => Ok(Some(present(found))),
+        None => Ok(None),
+    }
+}
+
+/// `["->" E] ":"`
+pub(crate) fn result_kind<'a>(alloc: Global, tokens: &'a [Token]) -> Reading<'a, Option<Expr>>
+    ensures { IfOk result (λ found. FoundAt Result Anything maybe_of maybe_nesting tokens.now found) }
+{
+    if let Some(rest) = after_mark(tokens, Mark::Colon) {
+        return Ok(Some(absent(rest)));
+    }
+    let Some(rest) = after_mark(tokens, Mark::RightArrow) else {
+        return Ok(None);
+    };
+    match expression_before_colon(alloc, rest)? {
+        Some(found) => Ok(Some(present(found))),
+        None => Ok(None),
+    }
+}
+
+/// No expression.
+fn absent(rest: &[Token]) -> Found<'_, Option<Expr>>
+    ensures built { result.built ≡ Built.Shallow None }
+    ensures rest { result.rest.now ≡ rest.now }
+{
+    Found {
+        built: Built::Shallow(None),
+        rest,
+    }
+}
+
+/// The expression that was found.
+fn present(found: Found<'_, Expr>) -> Found<'_, Option<Expr>>
+    ensures built { result.built ≡ built_on Some found.entry.built }
+    ensures rest { result.rest.now ≡ found.entry.rest.now }
+{
+    Found {
+        built: match found.built {
+            Built::Shallow(e) => Built::Shallow(Some(e)),
+            Built::TooDeep => Built::TooDeep,
+        },
+        rest: found.rest,
+    }
+}
+
+/// `NAME [":" E] ["=" E]`
+fn parameter<'a>(alloc: Global, tokens: &'a [Token]) -> Reading<'a, Param>
+    ensures { IfOk result (λ found. FoundAt Parameter EndsParameter param_of param_nesting tokens.now found) }
+{
+    let Some((name, rest)) = after_name(tokens) else {
+        return Ok(None);
+    };
+    let Some(kind) = annotation(alloc, rest)? else {
+        return Ok(None);
+    };
+    let Some(default) = default(alloc, kind.rest)? else {
+        return Ok(None);
+    };
+    Ok(Some(Found {
+        built: built_parameter(alloc, name, kind.built, default.built)?,
+        rest: default.rest,
+    }))
+}
+
+fn built_parameter(
+    alloc: Global,
+    name: &Text,
+    kind: Built<Option<Expr>>,
+    default: Built<Option<Expr>>,
+) -> Result<Built<Param>, AllocError>
+    ensures { IfOk result (λ built. (k d : _) → IsBuilt maybe_of maybe_nesting k kind → IsBuilt maybe_of maybe_nesting d default → IsBuilt param_of param_nesting (record { name = name.now; kind = k; default = d }) built) }
+{
+    match (kind, default) {
+        (Built::Shallow(kind), Built::Shallow(default)) => Ok(Built::Shallow(Param {
+            name: name.copy(alloc)?,
+            kind,
+            default,
+        })),
+        _ => Ok(Built::TooDeep),
+    }
+}
