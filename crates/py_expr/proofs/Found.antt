@@ -3,7 +3,8 @@ use Rattle.std.proofs.Common.{◌≡◌, ◌≤◌, ◌<◌, ℕ, max, List, [],
 use Rattle.py_tree.specs.Syntax as syntax
 use Rattle.py_tree.specs.Syntax.{Text, Expression, Param}
 use Rattle.py_tree.specs.Nesting.{nesting}
-use Rattle.py_tree.specs.Joined.{expression_of, maybe_of}
+use Rattle.py_tree.specs.Joined.{expression_of, maybe_of, param_of}
+use Rattle.py_tree.specs.declared.expression.Param as tree
 use Rattle.py_tree.specs.declared.expression.Expr.{Expr}
 use Rattle.py_lexer.specs.declared.token.Token.TheVariants as token
 use Rattle.py_expr.specs.declared.phrase.Phrase.{Phrase}
@@ -17,19 +18,20 @@ use Rattle.py_expr.specs.Lines as l
 use Rattle.py_expr.specs.Lines.{Annotation, Default, Parameter, Result}
 use Rattle.py_expr.specs.LineEnds.{Anything, EndsAnnotation, EndsParameter}
 use Rattle.py_expr.specs.Depth.{maybe_nesting, param_nesting}
-use Rattle.py_expr.specs.Readings.{Same, IsBuilt, IsFound, BeforeColon, ListBeforeColon, built_on}
+use Rattle.py_expr.specs.Readings.{Same, IsBuilt, IsFound, BeforeColon, built_on, both_built}
 use Rattle.py_expr.proofs.OneForm.{behind, annotation_ends, parameter_ends, default_begins}
 use Rattle.py_expr.proofs.Builds.{one_front}
 
 expression_built : (e : Expression) (b : Built Expr) → IsExpression e b → IsBuilt expression_of nesting e b
-expression_built e (Shallow tree) h = h
+expression_built e (Shallow made) h = h
 expression_built e TooDeep h = h
 
 -- a phrase
-pub phrase_found : (k : Level) (s : Tokens) (phrase : Phrase) (b : Built Expr) → AtFront k s (Some phrase) → BuildsExpression phrase b → IsFound (Spells k) (IsEnd k) expression_of nesting s b phrase.rest.now
-phrase_found k s phrase b h builds =
-    let e : Expression = h.0 in
-    let is : Is phrase k s phrase.rest.now e = h.1 in
+pub phrase_found : (k : Level) (s : Tokens) (o : Option Phrase) (phrase : Phrase) (b : Built Expr) → o ≡ Some phrase → AtFront k s o → BuildsExpression phrase b → IsFound (Spells k) (IsEnd k) expression_of nesting s b phrase.rest.now
+phrase_found k s o phrase b some h builds =
+    let front : AtFront k s (Some phrase) = subst (AtFront k s) some h in
+    let e : Expression = front.0 in
+    let is : Is phrase k s phrase.rest.now e = front.1 in
     record {
       thing = e;
       stands = is.spells;
@@ -37,35 +39,16 @@ phrase_found k s phrase b h builds =
       is_built = expression_built e b (builds k s phrase.rest.now e is);
     }
 
--- an expression with a colon behind it
-pub before_colon : (s r m : Tokens) (b : Built Expr) → IsFound (Spells E) (IsEnd E) expression_of nesting s b r → r ≡ t.colon ∷ m → IsFound BeforeColon Anything expression_of nesting s b m
-before_colon s r m b f h =
-    record {
-      thing = f.thing;
-      stands = subst (λ z. Spells E s z f.thing) h f.stands;
-      only = λ q z d i. let x = f.only (t.colon ∷ q) z d tt in record { thing = x.thing; rest = ap behind (sym h ∙ x.rest) };
-      is_built = f.is_built;
-    }
-
-pub no_colon_behind : (s r : Tokens) (b : Built Expr) → IsFound (Spells E) (IsEnd E) expression_of nesting s b r → ((m : Tokens) → r ≡ t.colon ∷ m → ⊥) → (q : Tokens) (z : Expression) → BeforeColon s q z → Anything q → ⊥
-no_colon_behind s r b f h q z d i = h q (f.only (t.colon ∷ q) z d tt).rest
-
-pub list_before : (s r m : Tokens) (b : Built Expr) → IsFound (Spells L) (IsEnd L) expression_of nesting s b r → r ≡ t.colon ∷ m → IsFound ListBeforeColon Anything expression_of nesting s b m
-list_before s r m b f h =
-    record {
-      thing = f.thing;
-      stands = subst (λ z. Spells L s z f.thing) h f.stands;
-      only = λ q z d i. let x = f.only (t.colon ∷ q) z d tt in record { thing = x.thing; rest = ap behind (sym h ∙ x.rest) };
-      is_built = f.is_built;
-    }
-
-pub no_list_before : (s r : Tokens) (b : Built Expr) → IsFound (Spells L) (IsEnd L) expression_of nesting s b r → ((m : Tokens) → r ≡ t.colon ∷ m → ⊥) → (q : Tokens) (z : Expression) → ListBeforeColon s q z → Anything q → ⊥
-no_list_before s r b f h q z d i = h q (f.only (t.colon ∷ q) z d tt).rest
+-- with what was built and what follows under other names
+pub under : {T Y : Type 0} {Stands : Tokens → Tokens → Y → Type 0} {ends : Tokens → Type 0} {view : T → Y} {depth : Y → ℕ} {s : Tokens} {b b' : Built T} {r r' : Tokens}
+    → b' ≡ b → r' ≡ r → IsFound Stands ends view depth s b r → IsFound Stands ends view depth s b' r'
+under {Stands = Stands} {ends = ends} {view = view} {depth = depth} {s = s} {b' = b'} {r = r} is_b is_r f =
+    subst (λ y. IsFound Stands ends view depth s b' y) (sym is_r) (subst (λ y. IsFound Stands ends view depth s y r) (sym is_b) f)
 
 -- ---- annotations, defaults and results
 
 some_built : (e : Expression) (b : Built Expr) → IsBuilt expression_of nesting e b → IsBuilt maybe_of maybe_nesting (Some e) (built_on Some b)
-some_built e (Shallow tree) h = (h.0, ap Some h.1)
+some_built e (Shallow made) h = (h.0, ap Some h.1)
 some_built e TooDeep h = h
 
 none_built : IsBuilt maybe_of maybe_nesting None (Shallow None)
@@ -144,3 +127,56 @@ not_result s m h none q z d i = only_result q z (subst (λ y. Result y q z) h d)
 pub no_result : (s : Tokens) → ((m : Tokens) → s ≡ t.colon ∷ m → ⊥) → ((m : Tokens) → s ≡ t.arrow ∷ m → ⊥) → (q : Tokens) (z : Option Expression) → Result s q z → Anything q → ⊥
 no_result _ h k q _ l.no_result i = h q refl
 no_result _ h k q _ (l.a_result {s = s} d) i = k s refl
+
+-- ---- parameters
+
+parameter_only : (m r q : Tokens) (n : Text) (k d : Option Expression) (x : Tokens) (z : Param) → ((q : Tokens) (z : Option Expression) → Annotation m q z → EndsAnnotation q → Same k z x q)
+    → ((q : Tokens) (z : Option Expression) → Default x q z → EndsParameter q → Same d z r q) → Parameter (token.Name n ∷ m) q z → EndsParameter q → Same (record { name = n; kind = k; default = d }) z r q
+parameter_only m r q n k d x _ kinds defaults (l.a_parameter {m = y} {k = k'} {d = d'} u v) i =
+    let first = kinds y k' u (default_begins v i) in
+    let here : x ≡ y = first.rest in
+    let second = defaults q d' (subst (λ o. Default o q d') (sym here) v) i in
+    let same_kinds : k ≡ k' = first.thing in
+    let same_defaults : d ≡ d' = second.thing in
+    record { thing = cc; rest = second.rest }
+
+pub parameter_found : (s m x r : Tokens) (n : Text) (kind default : Built (Option Expr)) (b : Built tree.Param) → s ≡ token.Name n ∷ m
+    → IsFound Annotation EndsAnnotation maybe_of maybe_nesting m kind x → IsFound Default EndsParameter maybe_of maybe_nesting x default r
+    → ((k d : Option Expression) → IsBuilt maybe_of maybe_nesting k kind → IsBuilt maybe_of maybe_nesting d default → IsBuilt param_of param_nesting (record { name = n; kind = k; default = d }) b)
+    → IsFound Parameter EndsParameter param_of param_nesting s b r
+parameter_found s m x r n kind default b h f g makes =
+    subst (λ y. IsFound Parameter EndsParameter param_of param_nesting y b r) (sym h) (record {
+      thing = record { name = n; kind = f.thing; default = g.thing };
+      stands = l.a_parameter f.stands g.stands;
+      only = λ q z d i. parameter_only m r q n f.thing g.thing x z f.only g.only d i;
+      is_built = makes f.thing g.thing f.is_built g.is_built;
+    })
+
+pub no_kind : (s m : Tokens) (n : Text) → s ≡ token.Name n ∷ m → ((q : Tokens) (z : Option Expression) → Annotation m q z → EndsAnnotation q → ⊥) → (q : Tokens) (z : Param) → Parameter s q z → EndsParameter q → ⊥
+no_kind s m n h none q z d i = at q z (subst (λ y. Parameter y q z) h d) i where
+  at : (q : Tokens) (z : Param) → Parameter (token.Name n ∷ m) q z → EndsParameter q → ⊥
+  at q _ (l.a_parameter {m = y} {k = k} u v) i = none y k u (default_begins v i)
+
+pub no_default_behind : (s m x : Tokens) (n : Text) (kind : Built (Option Expr)) → s ≡ token.Name n ∷ m → IsFound Annotation EndsAnnotation maybe_of maybe_nesting m kind x
+    → ((q : Tokens) (z : Option Expression) → Default x q z → EndsParameter q → ⊥) → (q : Tokens) (z : Param) → Parameter s q z → EndsParameter q → ⊥
+no_default_behind s m x n kind h f none q z d i = at q z (subst (λ y. Parameter y q z) h d) i where
+  at : (q : Tokens) (z : Param) → Parameter (token.Name n ∷ m) q z → EndsParameter q → ⊥
+  at q _ (l.a_parameter {m = y} {k = k} {d = d} u v) i = none q d (subst (λ o. Default o q d) (sym (f.only y k u (default_begins v i)).rest) v) i
+
+-- what is built of both is deep where one of them is
+pub both_deep : (n : Text) (k d : Option Expression) (kind default : Built (Option Expr)) (b : Built tree.Param) → IsBuilt maybe_of maybe_nesting k kind → IsBuilt maybe_of maybe_nesting d default
+    → both_built kind default ≡ TooDeep → IsBuilt param_of param_nesting (record { name = n; kind = k; default = d }) TooDeep
+both_deep n k d (Shallow a) (Shallow c) b h g is = absurd cc
+both_deep n k d (Shallow a) TooDeep b h g is = omega (arith, g)
+both_deep n k d TooDeep default b h g is = omega (arith, h)
+
+pub both_shallow : (n copy : Text) (k d : Option Expression) (kind default : Built (Option Expr)) (a c : Option Expr) → IsBuilt maybe_of maybe_nesting k kind → IsBuilt maybe_of maybe_nesting d default
+    → both_built kind default ≡ Shallow (a, c) → copy ≡ n → IsBuilt param_of param_nesting (record { name = n; kind = k; default = d }) (Shallow (record { name = copy; kind = a; default = c }))
+both_shallow n copy k d (Shallow a') (Shallow c') a c h g is same =
+    let first : a' ≡ a = cc in
+    let second : c' ≡ c = cc in
+    let kinds : maybe_of a ≡ k = ap maybe_of (sym first) ∙ h.1 in
+    let defaults : maybe_of c ≡ d = ap maybe_of (sym second) ∙ g.1 in
+    (omega (arith, h.0, g.0), cc)
+both_shallow n copy k d (Shallow a') TooDeep a c h g is same = absurd cc
+both_shallow n copy k d TooDeep default a c h g is same = absurd cc

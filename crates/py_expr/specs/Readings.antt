@@ -49,3 +49,8 @@ ListBeforeColon s r e = Spells L s (t.colon ∷ r) e
 abbrev pub built_on : {A B : Type 0} → (A → B) → Built A → Built B
 built_on make (Shallow a) = Shallow (make a)
 built_on make TooDeep = TooDeep
+
+-- both, where neither is too deep
+abbrev pub both_built : {A B : Type 0} → Built A → Built B → Built (A × B)
+both_built (Shallow a) second = built_on (λ b. (a, b)) second
+both_built TooDeep second = TooDeep

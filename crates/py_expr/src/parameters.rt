@@ -10,7 +10,7 @@ ghost use Rattle.py_expr.specs.declared.phrase.Built.TheVariants as Built;
 use crate::expressions::{expression, expression_before_colon};
 use crate::front::{after_mark, after_name};
 use crate::phrase::Built;
-use crate::reading::{Found, Reading};
+use crate::reading::{both, optional, Found, Reading};
 use py_lexer::token::{Mark, Token};
 use py_tree::expression::{Expr, Param};
 use py_tree::text::Text;
@@ -74,12 +74,10 @@ fn present(found: Found<'_, Expr>) -> Found<'_, Option<Expr>>
     ensures built { result.built ≡ built_on Some found.entry.built }
     ensures rest { result.rest.now ≡ found.entry.rest.now }
 {
+    let Found { built, rest } = found;
     Found {
-        built: match found.built {
-            Built::Shallow(e) => Built::Shallow(Some(e)),
-            Built::TooDeep => Built::TooDeep,
-        },
-        rest: found.rest,
+        built: optional(built),
+        rest,
     }
 }
 
@@ -110,12 +108,12 @@ fn built_parameter(
 ) -> Result<Built<Param>, AllocError>
     ensures { IfOk result (λ built. (k d : _) → IsBuilt maybe_of maybe_nesting k kind → IsBuilt maybe_of maybe_nesting d default → IsBuilt param_of param_nesting (record { name = name.now; kind = k; default = d }) built) }
 {
-    match (kind, default) {
-        (Built::Shallow(kind), Built::Shallow(default)) => Ok(Built::Shallow(Param {
+    match both(kind, default) {
+        Built::Shallow((kind, default)) => Ok(Built::Shallow(Param {
             name: name.copy(alloc)?,
             kind,
             default,
         })),
-        _ => Ok(Built::TooDeep),
+        Built::TooDeep => Ok(Built::TooDeep),
     }
 }

@@ -1,3 +1,6 @@
+ghost use Rattle.std.specs.Prelude.{◌≡◌, Some};
+ghost use Rattle.py_expr.specs.Readings.{built_on, both_built};
+
 use crate::phrase::Built;
 use py_lexer::token::Token;
 use std::alloc::AllocError;
@@ -10,4 +13,33 @@ pub(crate) type Reading<'a, T> = Result<Option<Found<'a, T>>, AllocError>;
 pub(crate) struct Found<'a, T> {
     pub(crate) built: Built<T>,
     pub(crate) rest: &'a [Token],
+}
+
+/// What was built, as what is there.
+pub(crate) fn optional<T>(built: Built<T>) -> Built<Option<T>>
+    ensures { result ≡ built_on Some built }
+{
+    match built {
+        Built::Shallow(tree) => Built::Shallow(Some(tree)),
+        Built::TooDeep => Built::TooDeep,
+    }
+}
+
+/// Both, where neither is too deep.
+pub(crate) fn both<A: Drop, B: Drop>(first: Built<A>, second: Built<B>) -> Built<(A, B)>
+    ensures { result ≡ both_built first second }
+{
+    match first {
+        Built::Shallow(first) => beside(first, second),
+        Built::TooDeep => Built::TooDeep,
+    }
+}
+
+fn beside<A: Drop, B>(first: A, second: Built<B>) -> Built<(A, B)>
+    ensures { result ≡ built_on (λ b. (first, b)) second }
+{
+    match second {
+        Built::Shallow(second) => Built::Shallow((first, second)),
+        Built::TooDeep => Built::TooDeep,
+    }
 }
