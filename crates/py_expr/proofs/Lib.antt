@@ -2,3 +2,5 @@ pub mod Complete
 pub mod Sound
 pub mod Builds
 pub mod Nested
+pub mod Names
+pub mod Calling

@@ -1,6 +1,7 @@
 //! The line grammar: the one form that the tokens of a logical line spell.
 #![tactic(auto)]
 
+mod call;
 pub mod form;
 mod machine;
 mod operand;
