@@ -4,3 +4,4 @@ pub mod Builds
 pub mod Nested
 pub mod Names
 pub mod Calling
+pub mod Reading

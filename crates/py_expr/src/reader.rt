@@ -5,6 +5,7 @@ ghost use Rattle.py_expr.specs.Readers.{kept, Acts};
 
 use crate::machine::{Frame, Mode, Step, Whole};
 use std::alloc::{AllocError, Global};
+use std::mem;
 
 /// What is open, and the steps so far.
 #[derive(Drop)]
@@ -47,6 +48,13 @@ impl<'a> Reader<'a> {
         ensures steps { self.new.steps.items ≡ self.old.steps.items }
     {
         let _ = self.frames.pop();
+    }
+
+    /// The steps, newest last.
+    pub fn take_steps(&mut self, alloc: Global) -> Vec<Step<'a>>
+        ensures { result.items ≡ self.old.steps.items }
+    {
+        mem::replace(&mut self.steps, Vec::new(alloc))
     }
 
     /// The frames, newest last.
