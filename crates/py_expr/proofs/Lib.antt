@@ -5,3 +5,4 @@ pub mod Nested
 pub mod Names
 pub mod Calling
 pub mod Reading
+pub mod Fronts

@@ -4,6 +4,7 @@
 mod call;
 pub mod form;
 mod machine;
+mod nesting;
 mod operand;
 mod operator;
 pub mod phrase;

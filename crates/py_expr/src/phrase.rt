@@ -155,7 +155,7 @@ fn phrase_at<'a>(
 pub fn list_at<'a>(alloc: Global, tokens: &'a [Token]) -> Result<Option<Phrase<'a>>, AllocError>
     ensures phrase { IfOk result (λ found. AtFront L tokens.now found) }
 {
-    Err(AllocError)
+    phrase_at(alloc, tokens, Whole::List)
 }
 
 /// The expression at the front that ends where one that stands alone may end, if one stands there.
@@ -165,7 +165,7 @@ pub fn expression_at<'a>(
 ) -> Result<Option<Phrase<'a>>, AllocError>
     ensures phrase { IfOk result (λ found. AtFront E tokens.now found) }
 {
-    Err(AllocError)
+    phrase_at(alloc, tokens, Whole::Lone)
 }
 
 impl<'a> Phrase<'a> {
