@@ -7,7 +7,7 @@ use Rattle.py_expr.specs.Grammar.{Tokens, Level, Spells, Joined, Items, Entries,
 use Rattle.py_expr.specs.Ends.{IsEnd}
 use Rattle.py_expr.specs.Machine as m
 use Rattle.py_expr.specs.Machine.{Step, Steps, Read, read, read_to}
-use Rattle.py_expr.specs.Emitted.{count, count_pairs, count_keywords, emit, emit_text, emit_items, emit_entries, emit_arguments, emit_keywords, join_text, on_one, on_two, on_three, on_items, on_pairs, on_callee, on_arguments, on_keywords, trees}
+use Rattle.py_expr.specs.Emitted.{count, count_pairs, count_keywords, emit, emit_text, emit_items, emit_entries, emit_arguments, emit_keywords, join_text, on_one, on_two, on_three, Taken, take_items, put_items, TakenPairs, take_pairs, put_pairs, TakenKeywords, take_keywords, put_call, on_call, trees}
 use Rattle.py_expr.proofs.Complete.{is_read}
 
 -- ---- lists, the first deepest on the stack
@@ -48,39 +48,44 @@ abbrev keywords_onto : Keywords → List Expression → List Expression
 keywords_onto x.end_of_keywords st = st
 keywords_onto (x.more_keywords (x.Named n v) ks) st = keywords_onto ks (v ∷ x.Name n ∷ st)
 
-items_on : (make : Expressions → Expression) (es fs : Expressions) (n : ℕ) (st : List Expression) → on_items make (count es + n) fs (onto es st) ≡ on_items make n (join es fs) st
-items_on make x.end_of_expressions fs n st = ap (λ k. on_items make k fs st) (omega arith)
-items_on make (x.more_expressions e es) fs n st = let k : suc (count es) + n ≡ count es + suc n = omega arith in rw k (items_on make es fs (suc n) (e ∷ st))
+items_on : (es fs : Expressions) (n : ℕ) (st : List Expression) → take_items (count es + n) fs (onto es st) ≡ take_items n (join es fs) st
+items_on x.end_of_expressions fs n st = ap (λ k. take_items k fs st) (omega arith)
+items_on (x.more_expressions e es) fs n st = let k : suc (count es) + n ≡ count es + suc n = omega arith in rw k (items_on es fs (suc n) (e ∷ st))
 
-pairs_on : (ps qs : Pairs) (n : ℕ) (st : List Expression) → on_pairs (count_pairs ps + n) qs (pairs_onto ps st) ≡ on_pairs n (join_pairs ps qs) st
-pairs_on x.end_of_pairs qs n st = ap (λ k. on_pairs k qs st) (omega arith)
+pairs_on : (ps qs : Pairs) (n : ℕ) (st : List Expression) → take_pairs (count_pairs ps + n) qs (pairs_onto ps st) ≡ take_pairs n (join_pairs ps qs) st
+pairs_on x.end_of_pairs qs n st = ap (λ k. take_pairs k qs st) (omega arith)
 pairs_on (x.more_pairs (x.Paired a b) ps) qs n st = let k : suc (count_pairs ps) + n ≡ count_pairs ps + suc n = omega arith in rw k (pairs_on ps qs (suc n) (b ∷ a ∷ st))
 
-arguments_on : (es fs : Expressions) (ks : Keywords) (n : ℕ) (st : List Expression) → on_arguments (count es + n) fs ks (onto es st) ≡ on_arguments n (join es fs) ks st
-arguments_on x.end_of_expressions fs ks n st = ap (λ k. on_arguments k fs ks st) (omega arith)
-arguments_on (x.more_expressions e es) fs ks n st = let k : suc (count es) + n ≡ count es + suc n = omega arith in rw k (arguments_on es fs ks (suc n) (e ∷ st))
+keywords_on : (ks ls : Keywords) (k : ℕ) (st : List Expression) → take_keywords (count_keywords ks + k) ls (keywords_onto ks st) ≡ take_keywords k (join_keywords ks ls) st
+keywords_on x.end_of_keywords ls k st = ap (λ j. take_keywords j ls st) (omega arith)
+keywords_on (x.more_keywords (x.Named a b) ks) ls k st = let j : suc (count_keywords ks) + k ≡ count_keywords ks + suc k = omega arith in rw j (keywords_on ks ls (suc k) (b ∷ x.Name a ∷ st))
 
-keywords_on : (ks ls : Keywords) (k n : ℕ) (st : List Expression) → on_keywords (count_keywords ks + k) ls n (keywords_onto ks st) ≡ on_keywords k (join_keywords ks ls) n st
-keywords_on x.end_of_keywords ls k n st = ap (λ j. on_keywords j ls n st) (omega arith)
-keywords_on (x.more_keywords (x.Named a b) ks) ls k n st = let j : suc (count_keywords ks) + k ≡ count_keywords ks + suc k = omega arith in rw j (keywords_on ks ls (suc k) n (b ∷ x.Name a ∷ st))
-
-items_are : (make : Expressions → Expression) (es : Expressions) (st : List Expression) → on_items make (count es) x.end_of_expressions (onto es st) ≡ make es ∷ st
-items_are make es st =
+items_are : (es : Expressions) (st : List Expression) → take_items (count es) x.end_of_expressions (onto es st) ≡ Some (record { items = es; left = st })
+items_are es st =
     let k : count es + 0 ≡ count es = omega arith in
-    (rw k at (items_on make es x.end_of_expressions 0 st)) ∙ ap (λ y. make y ∷ st) (join_end es)
+    (rw k at (items_on es x.end_of_expressions 0 st)) ∙ ap (λ y. Some (taken y st)) (join_end es)
+  where
+    taken : Expressions → List Expression → Taken
+    taken es st = record { items = es; left = st }
 
-pairs_are : (ps : Pairs) (st : List Expression) → on_pairs (count_pairs ps) x.end_of_pairs (pairs_onto ps st) ≡ x.Dict ps ∷ st
+pairs_are : (ps : Pairs) (st : List Expression) → take_pairs (count_pairs ps) x.end_of_pairs (pairs_onto ps st) ≡ Some (record { items = ps; left = st })
 pairs_are ps st =
     let k : count_pairs ps + 0 ≡ count_pairs ps = omega arith in
-    (rw k at (pairs_on ps x.end_of_pairs 0 st)) ∙ ap (λ y. x.Dict y ∷ st) (join_pairs_end ps)
+    (rw k at (pairs_on ps x.end_of_pairs 0 st)) ∙ ap (λ y. Some (taken y st)) (join_pairs_end ps)
+  where
+    taken : Pairs → List Expression → TakenPairs
+    taken ps st = record { items = ps; left = st }
 
-call_is : (a : Expression) (es : Expressions) (ks : Keywords) (st : List Expression) → on_keywords (count_keywords ks) x.end_of_keywords (count es) (keywords_onto ks (onto es (a ∷ st))) ≡ x.Call a es ks ∷ st
-call_is a es ks st =
+keywords_are : (ks : Keywords) (st : List Expression) → take_keywords (count_keywords ks) x.end_of_keywords (keywords_onto ks st) ≡ Some (record { items = ks; left = st })
+keywords_are ks st =
     let k : count_keywords ks + 0 ≡ count_keywords ks = omega arith in
-    let n : count es + 0 ≡ count es = omega arith in
-    (rw k at (keywords_on ks x.end_of_keywords 0 (count es) (onto es (a ∷ st))))
-    ∙ ap (λ ls. on_arguments (count es) x.end_of_expressions ls (onto es (a ∷ st))) (join_keywords_end ks)
-    ∙ (rw n at (arguments_on es x.end_of_expressions ks 0 (a ∷ st))) ∙ ap (λ y. x.Call a y ks ∷ st) (join_end es)
+    (rw k at (keywords_on ks x.end_of_keywords 0 st)) ∙ ap (λ y. Some (taken y st)) (join_keywords_end ks)
+  where
+    taken : Keywords → List Expression → TakenKeywords
+    taken ks st = record { items = ks; left = st }
+
+call_is : (a : Expression) (es : Expressions) (ks : Keywords) (st : List Expression) → on_call (count es) (take_keywords (count_keywords ks) x.end_of_keywords (keywords_onto ks (onto es (a ∷ st)))) ≡ x.Call a es ks ∷ st
+call_is a es ks st = ap (on_call (count es)) (keywords_are ks (onto es (a ∷ st))) ∙ ap (put_call ks) (items_are es (a ∷ st))
 
 -- ---- the trees
 
@@ -101,12 +106,12 @@ mutual
   grows g.a_false o = refl
   grows (g.a_group d) o = grows d o
   grows g.a_unit o = refl
-  grows (g.a_list {es = es} i) o = ap (on_items x.Listed (count es) x.end_of_expressions) (grows_items i o) ∙ items_are x.Listed es (trees o)
-  grows (g.a_dict {ps = ps} i) o = ap (on_pairs (count_pairs ps) x.end_of_pairs) (grows_entries i o) ∙ pairs_are ps (trees o)
+  grows (g.a_list {es = es} i) o = ap (λ st. put_items x.Listed (take_items (count es) x.end_of_expressions st)) (grows_items i o) ∙ ap (put_items x.Listed) (items_are es (trees o))
+  grows (g.a_dict {ps = ps} i) o = ap (λ st. put_pairs (take_pairs (count_pairs ps) x.end_of_pairs st)) (grows_entries i o) ∙ ap put_pairs (pairs_are ps (trees o))
   grows (g.an_attribute {n = n} d) o = ap (on_one (λ e. x.Attr e n)) (grows d o)
   grows (g.an_index d i) o = two x.Index _ _ _ _ _ (grows i (emit d o)) (grows d o)
   grows (g.a_call {e = a} {es = es} {ks = ks} d i h) o =
-      ap (on_keywords (count_keywords ks) x.end_of_keywords (count es)) (grows_arguments i (emit d o) ∙ ap (λ st. keywords_onto ks (onto es st)) (grows d o)) ∙ call_is a es ks (trees o)
+      ap (λ st. on_call (count es) (take_keywords (count_keywords ks) x.end_of_keywords st)) (grows_arguments i (emit d o) ∙ ap (λ st. keywords_onto ks (onto es st)) (grows d o)) ∙ call_is a es ks (trees o)
   grows (g.a_sign {op = op} c d) o = ap (on_one (x.Unary op)) (grows d o)
   grows (g.a_primary d) o = grows d o
   grows (g.a_product {op = op} c d i) o = two (x.Binary op) _ _ _ _ _ (grows i (emit d o)) (grows d o)
@@ -128,7 +133,7 @@ mutual
       ap (on_three (λ a b c. x.Cond b a c)) (grows l (emit i (emit d o)) ∙ ap (λ st. c ∷ st) (grows i (emit d o) ∙ ap (λ st. b ∷ st) (grows d o)))
   grows (g.unconditional d) o = grows d o
   grows (g.a_tuple {e = e} {es = es} d i) o =
-      ap (on_items x.Tuple (suc (count es)) x.end_of_expressions) (grows_items i (emit d o) ∙ ap (onto es) (grows d o)) ∙ items_are x.Tuple (x.more_expressions e es) (trees o)
+      ap (λ st. put_items x.Tuple (take_items (suc (count es)) x.end_of_expressions st)) (grows_items i (emit d o) ∙ ap (onto es) (grows d o)) ∙ ap (put_items x.Tuple) (items_are (x.more_expressions e es) (trees o))
   grows (g.single d) o = grows d o
 
   grows_items : {s r : Tokens} {es : Expressions} (i : Items s r es) (o : Steps) → trees (emit_items i o) ≡ onto es (trees o)

@@ -2,7 +2,11 @@ pub mod Complete
 pub mod Sound
 pub mod Builds
 pub mod Nested
+pub mod Names
+pub mod Calling
+pub mod Reading
+pub mod Fronts
 pub mod OneForm
 pub mod ForNames
-pub mod Found
+pub mod FoundAt
 pub mod NameLists

@@ -1,5 +1,5 @@
 -- The steps of a phrase count its nesting.
-use Rattle.std.proofs.Common.{◌≡◌, ℕ, zero, suc, ◌+◌, ◌≤◌, max, List, [], ◌∷◌, Option, Some, None, refl, sym, ap, ◌∙◌, arith}
+use Rattle.std.proofs.Common.{◌≡◌, ℕ, zero, suc, ◌+◌, ◌-◌, ◌<◌, ◌≤◌, max, List, [], ◌∷◌, Option, Some, None, refl, sym, ap, ◌∙◌, arith}
 use Rattle.py_tree.specs.Syntax as x
 use Rattle.py_tree.specs.Syntax.{Expression, Expressions, Pairs, Keywords}
 use Rattle.py_tree.specs.Nesting.{nesting, deepest, deepest_pair, deepest_keyword}
@@ -7,7 +7,8 @@ use Rattle.py_expr.specs.Grammar as g
 use Rattle.py_expr.specs.Grammar.{Tokens, Level, Spells, Joined, Items, Entries, Arguments, KeywordsAt}
 use Rattle.py_expr.specs.Machine as m
 use Rattle.py_expr.specs.Machine.{Step, Steps}
-use Rattle.py_expr.specs.Emitted.{count, count_pairs, count_keywords, emit, emit_text, emit_items, emit_entries, emit_arguments, emit_keywords, over, nest, parts, nestings}
+use Rattle.py_expr.specs.Emitted.{count, count_pairs, count_keywords, emit, emit_text, emit_items, emit_entries, emit_arguments, emit_keywords, over, nestings}
+use Rattle.py_expr.specs.Views.{top, rest}
 
 nesting_one : (e : Expression) → 1 ≤ nesting e
 nesting_one x.Nil = omega arith
@@ -174,3 +175,16 @@ mutual
   nests_keywords g.no_keyword o = refl
   nests_keywords (g.last_keyword {n = n} d) o = nests d (m.PutName n ∷ o)
   nests_keywords (g.next_keyword {n = n} {ks = ks} d i) o = nests_keywords i (emit d (m.PutName n ∷ o)) ∙ ap (keyword_depths ks) (nests d (m.PutName n ∷ o))
+
+-- ---- the loop over the parts
+
+pub over_next : (n i d a : ℕ) (st : List ℕ) → i < n → top st ≡ Some a → over (n - i) d st ≡ over (n - (i + 1)) (max a d) (rest st)
+over_next n i d a [] h e = absurd cc
+over_next n i d a (b ∷ st) h e =
+    let k : n - i ≡ suc (n - (i + 1)) = omega arith in
+    let same : b ≡ a = cc in
+    rw (k, same) refl
+
+pub over_end : (n i d : ℕ) (st : List ℕ) → i < n → top st ≡ None → over (n - i) d st ≡ rest st
+over_end n i d [] h e = let k : n - i ≡ suc (n - (i + 1)) = omega arith in rw k refl
+over_end n i d (b ∷ st) h e = absurd cc

@@ -108,33 +108,53 @@ abbrev pub on_three : (Expression → Expression → Expression → Expression) 
 on_three make (c ∷ b ∷ a ∷ st) = make a b c ∷ st
 on_three make _ = []
 
-abbrev pub on_items : (Expressions → Expression) → ℕ → Expressions → List Expression → List Expression
-on_items make zero es st = make es ∷ st
-on_items make (suc n) es (a ∷ st) = on_items make n (x.more_expressions a es) st
-on_items make (suc n) es [] = []
+-- items taken off the stack, and what is left
+pub record Taken : Type 0 where
+  pub items : Expressions
+  pub left : List Expression
 
-abbrev pub on_pairs : ℕ → Pairs → List Expression → List Expression
-on_pairs zero ps st = x.Dict ps ∷ st
-on_pairs (suc n) ps (v ∷ k ∷ st) = on_pairs n (x.more_pairs (x.Paired k v) ps) st
-on_pairs (suc n) ps _ = []
+abbrev pub take_items : ℕ → Expressions → List Expression → Option Taken
+take_items zero es st = Some (record { items = es; left = st })
+take_items (suc n) es (a ∷ st) = take_items n (x.more_expressions a es) st
+take_items (suc n) es [] = None
+
+abbrev pub put_items : (Expressions → Expression) → Option Taken → List Expression
+put_items make None = []
+put_items make (Some t) = make t.items ∷ t.left
+
+pub record TakenPairs : Type 0 where
+  pub items : Pairs
+  pub left : List Expression
+
+abbrev pub take_pairs : ℕ → Pairs → List Expression → Option TakenPairs
+take_pairs zero ps st = Some (record { items = ps; left = st })
+take_pairs (suc n) ps (v ∷ k ∷ st) = take_pairs n (x.more_pairs (x.Paired k v) ps) st
+take_pairs (suc n) ps _ = None
+
+abbrev pub put_pairs : Option TakenPairs → List Expression
+put_pairs None = []
+put_pairs (Some t) = x.Dict t.items ∷ t.left
 
 abbrev pub name_in : Expression → Text
 name_in (x.Name n) = n
 name_in e = []
 
-abbrev pub on_callee : Keywords → Expressions → List Expression → List Expression
-on_callee ks es (a ∷ st) = x.Call a es ks ∷ st
-on_callee ks es [] = []
+pub record TakenKeywords : Type 0 where
+  pub items : Keywords
+  pub left : List Expression
 
-abbrev pub on_arguments : ℕ → Expressions → Keywords → List Expression → List Expression
-on_arguments zero es ks st = on_callee ks es st
-on_arguments (suc n) es ks (a ∷ st) = on_arguments n (x.more_expressions a es) ks st
-on_arguments (suc n) es ks [] = []
+abbrev pub take_keywords : ℕ → Keywords → List Expression → Option TakenKeywords
+take_keywords zero ks st = Some (record { items = ks; left = st })
+take_keywords (suc k) ks (v ∷ a ∷ st) = take_keywords k (x.more_keywords (x.Named (name_in a) v) ks) st
+take_keywords (suc k) ks _ = None
 
-abbrev pub on_keywords : ℕ → Keywords → ℕ → List Expression → List Expression
-on_keywords zero ks n st = on_arguments n x.end_of_expressions ks st
-on_keywords (suc k) ks n (v ∷ a ∷ st) = on_keywords k (x.more_keywords (x.Named (name_in a) v) ks) n st
-on_keywords (suc k) ks n _ = []
+abbrev pub put_call : Keywords → Option Taken → List Expression
+put_call ks None = []
+put_call ks (Some t) = on_one (λ a. x.Call a t.items ks) t.left
+
+abbrev pub on_call : ℕ → Option TakenKeywords → List Expression
+on_call n None = []
+on_call n (Some t) = put_call t.items (take_items n x.end_of_expressions t.left)
 
 abbrev pub grow : Step → List Expression → List Expression
 grow (m.PutName n) st = x.Name n ∷ st
@@ -143,9 +163,9 @@ grow (m.PutText u) st = x.Str u ∷ st
 grow (m.JoinText v) st = on_one (join_text v) st
 grow (m.PutConstant k) st = constant_tree k ∷ st
 grow m.Grouped st = st
-grow (m.MakeTuple n) st = on_items x.Tuple n x.end_of_expressions st
-grow (m.MakeList n) st = on_items x.Listed n x.end_of_expressions st
-grow (m.MakeDict n) st = on_pairs n x.end_of_pairs st
+grow (m.MakeTuple n) st = put_items x.Tuple (take_items n x.end_of_expressions st)
+grow (m.MakeList n) st = put_items x.Listed (take_items n x.end_of_expressions st)
+grow (m.MakeDict n) st = put_pairs (take_pairs n x.end_of_pairs st)
 grow (m.MakeUnary op) st = on_one (x.Unary op) st
 grow (m.MakeBinary op) st = on_two (x.Binary op) st
 grow (m.MakeCompare op) st = on_two (x.Compare op) st
@@ -156,7 +176,7 @@ grow m.MakeOr st = on_two x.Or st
 grow m.MakeCond st = on_three (λ a b c. x.Cond b a c) st
 grow (m.MakeAttr n) st = on_one (λ e. x.Attr e n) st
 grow m.MakeIndex st = on_two x.Index st
-grow (m.MakeCall n k) st = on_keywords k x.end_of_keywords n st
+grow (m.MakeCall n k) st = on_call n (take_keywords k x.end_of_keywords st)
 
 -- of steps, newest first
 abbrev pub trees : Steps → List Expression

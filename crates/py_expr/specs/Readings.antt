@@ -2,7 +2,7 @@
 use Rattle.std.specs.Prelude.{◌≡◌, ◌≤◌, ◌<◌, ℕ, ◌∷◌, Option, Some, None}
 use Rattle.py_expr.specs.declared.phrase.Built.{Built}
 use Rattle.py_expr.specs.declared.phrase.Built.TheVariants.{Shallow, TooDeep}
-use Rattle.py_expr.specs.declared.reading.Found.{Found}
+use Rattle.py_expr.specs.declared.found.Found.{Found}
 use Rattle.py_tree.specs.Syntax.{Expression, Target}
 use Rattle.py_expr.specs.Tokens as t
 use Rattle.py_expr.specs.Grammar.{Tokens, Spells, E, L}

@@ -1,5 +1,6 @@
 -- No definition of the language: the machine's lists as the code keeps them.
 use Rattle.std.specs.Prelude.{ℕ, Bool, List, [], ◌∷◌, map, reverse, Option, Some, None}
+use denote.Ref.{Bor}
 use Rattle.py_expr.specs.declared.machine.Step as code_step
 use Rattle.py_expr.specs.declared.machine.Step.TheVariants as s
 use Rattle.py_expr.specs.declared.machine.Frame as code_frame
@@ -94,6 +95,10 @@ top (a ∷ st) = Some a
 abbrev pub rest : {A : Type 0} → List A → List A
 rest [] = []
 rest (a ∷ st) = st
+
+-- what is pointed to, newest first
+abbrev pub texts_of : List (Bor (List ℕ)) → List (List ℕ)
+texts_of names = map (λ name. name.now) (reverse names)
 
 -- where the machine stands behind a token: with no mode, where it stood
 pub record Moved : Type 0 where

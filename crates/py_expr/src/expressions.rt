@@ -8,7 +8,7 @@ ghost use Rattle.py_expr.specs.Readings.{FoundAt, BeforeColon, ListBeforeColon};
 
 use crate::front::after_mark;
 use crate::phrase::{expression_at, list_at};
-use crate::reading::{Found, Reading};
+use crate::found::{Found, Reading};
 use py_lexer::token::{Mark, Token};
 use py_tree::expression::Expr;
 use std::alloc::Global;

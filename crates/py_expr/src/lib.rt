@@ -1,14 +1,16 @@
 //! The line grammar: the one form that the tokens of a logical line spell.
 #![tactic(auto)]
 
+mod call;
 mod expressions;
+mod for_names;
 pub mod form;
+mod found;
 mod front;
 mod machine;
-mod names;
+mod nesting;
 mod operand;
 mod operator;
 mod parameters;
 pub mod phrase;
 mod reader;
-mod reading;

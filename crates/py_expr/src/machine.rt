@@ -1,7 +1,8 @@
 ghost use Rattle.std.specs.Prelude.{◌≡◌};
 ghost use Rattle.py_expr.specs.Machine as m;
-ghost use Rattle.py_expr.specs.Views.{frame_of};
+ghost use Rattle.py_expr.specs.Views.{frame_of, level_of};
 
+use py_lexer::token::{Keyword, Mark, Token};
 use py_tree::operator::{BinaryOp, CompareOp, Const, UnaryOp};
 use py_tree::text::Text;
 
@@ -153,4 +154,45 @@ pub enum Whole {
     List,
     /// An expression.
     Lone,
+}
+
+impl Whole {
+    /// Whether it may end before the token.
+    pub fn ends_before(self, token: &Token) -> bool
+        ensures { result ≡ m.ends (level_of self) token.now }
+    {
+        match self {
+            Whole::List => ends_list(token),
+            Whole::Lone => ends_lone(token),
+        }
+    }
+}
+
+fn ends_list(token: &Token) -> bool
+    ensures { result ≡ m.ends_list token.now }
+{
+    matches!(
+        token,
+        Token::Mark(
+            Mark::Equal
+                | Mark::Colon
+                | Mark::PlusEqual
+                | Mark::MinusEqual
+                | Mark::StarEqual
+                | Mark::DoubleSlashEqual
+                | Mark::PercentEqual
+        )
+    )
+}
+
+fn ends_lone(token: &Token) -> bool
+    ensures { result ≡ m.ends_lone token.now }
+{
+    matches!(
+        token,
+        Token::Word(Keyword::As)
+            | Token::Mark(
+                Mark::Colon | Mark::Comma | Mark::RightParen | Mark::Equal | Mark::RightArrow
+            )
+    )
 }

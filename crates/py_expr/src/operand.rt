@@ -88,4 +88,15 @@ impl<'a> Reader<'a> {
             _ => Ok(None),
         }
     }
+
+    pub fn operand_or_end(&mut self, alloc: Global, token: &'a Token) -> Result<Option<Mode>, AllocError>
+        ensures { IfOk result (Acts (λ fs o. m.operand_or_end fs o token.now) self.old self.new) }
+    {
+        match token {
+            Token::Mark(Mark::RightParen) => self.paren_after_comma(alloc),
+            Token::Mark(Mark::RightBracket) => self.bracket_after_comma(),
+            Token::Mark(Mark::RightBrace) => self.brace_after_comma(),
+            _ => self.operand(token),
+        }
+    }
 }

@@ -2,7 +2,7 @@ ghost use Rattle.std.specs.Prelude.{◌≡◌, IfOk, OnOk, IsTrue, IsNone, Optio
 ghost use Rattle.py_lexer.specs.declared.token.Token.TheVariants as token;
 ghost use Rattle.py_expr.specs.Machine as m;
 ghost use Rattle.py_expr.specs.Views.{mode_of, frame_of, frames_of, steps_of, maybe_frame};
-ghost use Rattle.py_expr.specs.Readers.{kept, Acts};
+ghost use Rattle.py_expr.specs.Readers.{kept, Acts, Steps};
 
 use crate::machine::{Frame, Mode, Step};
 use crate::reader::{Reader, one_more};
@@ -204,6 +204,117 @@ impl<'a> Reader<'a> {
                 _ => Ok(None),
             },
             _ => Ok(None),
+        }
+    }
+
+    fn push_if(&mut self, frame: Option<Frame<'a>>) -> Result<Option<Mode>, AllocError>
+        ensures { IfOk result (Acts (m.push_if (maybe_frame frame.entry)) self.old self.new) }
+    {
+        match frame {
+            Some(frame) => self.push(frame),
+            None => Ok(None),
+        }
+    }
+
+    fn goes_loose(&mut self, alloc: Global, token: &Token) -> Result<Option<Mode>, AllocError>
+        ensures { IfOk result (Acts (m.goes_loose token.now) self.old self.new) }
+    {
+        match token {
+            Token::Word(Keyword::Else) => self.other(),
+            Token::Mark(Mark::Comma) => self.comma(),
+            Token::Mark(Mark::RightParen) => self.paren(alloc),
+            Token::Mark(Mark::RightBracket) => self.bracket(),
+            Token::Mark(Mark::RightBrace) => self.brace(),
+            Token::Mark(Mark::Colon) => self.colon(),
+            _ => self.push_if(loose(token)),
+        }
+    }
+
+    fn goes_tight(&mut self, alloc: Global, token: &Token) -> Result<Option<Mode>, AllocError>
+        ensures { IfOk result (Acts (m.goes_tight (m.tight token.now) token.now) self.old self.new) }
+    {
+        match tight(token) {
+            Some(frame) => self.push(frame),
+            None => self.goes_loose(alloc, token),
+        }
+    }
+
+    fn goes(&mut self, alloc: Global, token: &'a Token) -> Result<Option<Mode>, AllocError>
+        ensures { IfOk result (Acts (m.goes token.now) self.old self.new) }
+    {
+        match token {
+            Token::Str(text) => self.joined(text),
+            Token::Mark(Mark::Dot) => Ok(Some(Mode::Dotted)),
+            Token::Mark(Mark::LeftBracket) => self.open(Frame::Index(0), Mode::Next),
+            Token::Mark(Mark::LeftParen) => self.open(Frame::Call(0), Mode::Next),
+            Token::Mark(Mark::Equal) => self.equal(),
+            Token::Word(Keyword::Not) => self.compared_by(Mode::NotIn),
+            Token::Word(Keyword::Is) => self.compared_by(Mode::Is),
+            _ => self.goes_tight(alloc, token),
+        }
+    }
+
+    fn dotted(&mut self, token: &'a Token) -> Result<Option<Mode>, AllocError>
+        ensures { IfOk result (Acts (λ fs o. m.dotted fs o token.now) self.old self.new) }
+    {
+        match token {
+            Token::Name(name) => self.put(Step::MakeAttr(name)),
+            _ => Ok(None),
+        }
+    }
+
+    fn not_in(&mut self, token: &Token) -> Result<Option<Mode>, AllocError>
+        ensures { IfOk result (Acts (λ fs o. m.not_in fs o token.now) self.old self.new) }
+    {
+        match token {
+            Token::Word(Keyword::In) => self.open(Frame::Compare(CompareOp::NotIn), Mode::Want),
+            _ => Ok(None),
+        }
+    }
+
+    fn is_constant(&mut self, negated: bool, token: &Token) -> Result<Option<Mode>, AllocError>
+        ensures { IfOk result (Acts (m.is_constant negated (m.constant_of token.now)) self.old self.new) }
+    {
+        let Some(right) = constant(token) else {
+            return Ok(None);
+        };
+        self.emit(Step::MakeIs(negated, right))?;
+        Ok(Some(Mode::Compared))
+    }
+
+    fn is(&mut self, token: &Token) -> Result<Option<Mode>, AllocError>
+        ensures { IfOk result (Acts (λ fs o. m.is fs o token.now) self.old self.new) }
+    {
+        match token {
+            Token::Word(Keyword::Not) => Ok(Some(Mode::IsNot)),
+            _ => self.is_constant(false, token),
+        }
+    }
+
+    /// Reads the token. Where it has no place behind what has been read, there is no mode, and what it ends has been ended.
+    pub fn step(
+        &mut self,
+        alloc: Global,
+        mode: Mode,
+        token: &'a Token,
+    ) -> Result<Option<Mode>, AllocError>
+        ensures { IfOk result (Steps (mode_of mode) token.now self.old self.new) }
+    {
+        match mode {
+            Mode::Want => self.operand(token),
+            Mode::Next => self.operand_or_end(alloc, token),
+            Mode::Have => {
+                self.close_before(token)?;
+                self.goes(alloc, token)
+            }
+            Mode::Dotted => self.dotted(token),
+            Mode::NotIn => self.not_in(token),
+            Mode::Is => self.is(token),
+            Mode::IsNot => self.is_constant(true, token),
+            Mode::Compared => {
+                self.close_before(token)?;
+                self.goes_loose(alloc, token)
+            }
         }
     }
 }

@@ -10,7 +10,7 @@ ghost use Rattle.py_expr.specs.declared.phrase.Built.TheVariants as Built;
 use crate::expressions::{expression, expression_before_colon};
 use crate::front::{after_mark, after_name};
 use crate::phrase::Built;
-use crate::reading::{both, optional, Found, Reading};
+use crate::found::{both, optional, Found, Reading};
 use py_lexer::token::{Mark, Token};
 use py_tree::expression::{Expr, Param};
 use py_tree::text::Text;

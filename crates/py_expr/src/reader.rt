@@ -1,10 +1,11 @@
-ghost use Rattle.std.specs.Prelude.{◌≡◌, suc, [], ◌∷◌, Some, OnOk, IfOk};
+ghost use Rattle.std.specs.Prelude.{◌≡◌, suc, take, [], ◌∷◌, Some, OnOk, IfOk};
 ghost use Rattle.py_expr.specs.Machine as m;
 ghost use Rattle.py_expr.specs.Views.{step_of, steps_of, frame_of, frames_of, maybe_frame, maybe_step, mode_of, level_of, top, rest};
 ghost use Rattle.py_expr.specs.Readers.{kept, Acts};
 
 use crate::machine::{Frame, Mode, Step, Whole};
 use std::alloc::{AllocError, Global};
+use std::mem;
 
 /// What is open, and the steps so far.
 #[derive(Drop)]
@@ -47,6 +48,28 @@ impl<'a> Reader<'a> {
         ensures steps { self.new.steps.items ≡ self.old.steps.items }
     {
         let _ = self.frames.pop();
+    }
+
+    /// The steps, newest last.
+    pub fn take_steps(&mut self, alloc: Global) -> Vec<Step<'a>>
+        ensures { result.items ≡ self.old.steps.items }
+    {
+        mem::replace(&mut self.steps, Vec::new(alloc))
+    }
+
+    /// The frames, newest last.
+    pub fn frames(&self) -> &[Frame<'a>]
+        ensures { result.now ≡ self.now.frames.items }
+    {
+        self.frames.as_slice()
+    }
+
+    /// Keeps the first frames, by their number.
+    pub fn keep(&mut self, count: usize)
+        ensures frames { self.new.frames.items ≡ take count self.old.frames.items }
+        ensures steps { self.new.steps.items ≡ self.old.steps.items }
+    {
+        self.frames.truncate(count);
     }
 
     pub fn enter(&mut self, frame: Frame<'a>) -> Result<(), AllocError>

@@ -1,5 +1,5 @@
 use Rattle.py_expr.specs.Grammar.{E}
-use Rattle.py_expr.proofs.Found.{phrase_found}
+use Rattle.py_expr.proofs.FoundAt.{phrase_found}
 use Rattle.py_expr.proofs.expressions.expression.Goals as goal
 
 pub returns-in_ok-expression-in-Some : goal.returns-in_ok-expression-in-Some

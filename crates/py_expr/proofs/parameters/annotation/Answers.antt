@@ -1,4 +1,4 @@
-use Rattle.py_expr.proofs.Found.{under, unannotated_found, annotated_found}
+use Rattle.py_expr.proofs.FoundAt.{under, unannotated_found, annotated_found}
 use Rattle.py_expr.proofs.parameters.annotation.Goals as goal
 
 pub returns-in_default : goal.returns-in_default

@@ -1,4 +1,4 @@
-use Rattle.py_expr.proofs.Found.{under, no_default_found, default_found}
+use Rattle.py_expr.proofs.FoundAt.{under, no_default_found, default_found}
 use Rattle.py_expr.proofs.parameters.default.Goals as goal
 
 pub returns-in_default : goal.returns-in_default

@@ -10,7 +10,7 @@ ghost use Rattle.py_expr.specs.Readings.{FoundAt, BeforeIn, InParentheses};
 
 use crate::front::{after_mark, after_name, after_word};
 use crate::phrase::Built;
-use crate::reading::{Found, Reading};
+use crate::found::{Found, Reading};
 use py_lexer::token::{Keyword, Mark, Token};
 use py_tree::expression::{Target, Texts};
 use std::alloc::{AllocError, Global};

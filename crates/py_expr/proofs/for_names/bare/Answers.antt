@@ -1,7 +1,7 @@
 use Rattle.std.proofs.Common.{◌≡◌, ◌∷◌, Some, None, ap, sym, ◌∙◌}
 use Rattle.py_expr.specs.Tokens as t
 use Rattle.py_expr.proofs.ForNames.{bare_found, no_bare}
-use Rattle.py_expr.proofs.names.bare.Goals as goal
+use Rattle.py_expr.proofs.for_names.bare.Goals as goal
 
 pub returns-in_default : goal.returns-in_default
 returns-in_default c s bare read = no_bare s c.args.list.rest.now c.args.list.names c.args.list.comma bare read (λ r z is h. c.in_default.ensures r h)

@@ -2,7 +2,7 @@ use Rattle.std.proofs.Common.{◌≡◌, ◌∷◌, arith, ap, sym, ◌∙◌}
 use Rattle.py_expr.specs.Tokens as t
 use Rattle.py_expr.proofs.OneForm.{behind}
 use Rattle.py_expr.proofs.ForNames.{parentheses_found, no_parentheses}
-use Rattle.py_expr.proofs.names.in_parentheses.Goals as goal
+use Rattle.py_expr.proofs.for_names.in_parentheses.Goals as goal
 
 pub returns-then-len-lt2 : goal.returns-then-len-lt2
 returns-then-len-lt2 c s read =

@@ -1,5 +1,5 @@
 use Rattle.py_expr.proofs.NameLists.{next_name}
-use Rattle.py_expr.proofs.names.names_at.Goals as goal
+use Rattle.py_expr.proofs.for_names.names_at.Goals as goal
 
 pub loop-name-preserved : goal.loop-name-preserved
 loop-name-preserved c =
