@@ -10,6 +10,7 @@ use Rattle.py_lexer.specs.declared.token.Token.TheVariants as token
 use Rattle.py_expr.specs.declared.phrase.Phrase.{Phrase}
 use Rattle.py_expr.specs.declared.phrase.Built.{Built}
 use Rattle.py_expr.specs.declared.phrase.Built.TheVariants.{Shallow, TooDeep}
+use Rattle.py_expr.specs.declared.found.Found as reading
 use Rattle.py_expr.specs.Tokens as t
 use Rattle.py_expr.specs.Grammar.{Tokens, Level, E, L, Spells}
 use Rattle.py_expr.specs.Ends.{IsEnd}
@@ -18,7 +19,7 @@ use Rattle.py_expr.specs.Lines as l
 use Rattle.py_expr.specs.Lines.{Annotation, Default, Parameter, Result}
 use Rattle.py_expr.specs.LineEnds.{Anything, EndsAnnotation, EndsParameter}
 use Rattle.py_expr.specs.Depth.{maybe_nesting, param_nesting}
-use Rattle.py_expr.specs.Readings.{Same, IsBuilt, IsFound, BeforeColon, built_on, both_built}
+use Rattle.py_expr.specs.Readings.{Same, IsBuilt, FoundAt, IsFound, BeforeColon, built_on, both_built}
 use Rattle.py_expr.proofs.OneForm.{behind, annotation_ends, parameter_ends, default_begins}
 use Rattle.py_expr.proofs.Builds.{one_front}
 
@@ -38,6 +39,15 @@ phrase_found k s o phrase b some h builds =
       only = λ q z d i. let x = one_front is.spells is.ends d i in record { thing = x.tree; rest = x.rest };
       is_built = expression_built e b (builds k s phrase.rest.now e is);
     }
+
+-- of a reading that found something, and of one that didn't
+pub some_found : {T Y : Type 0} {Stands : Tokens → Tokens → Y → Type 0} {ends : Tokens → Type 0} {view : T → Y} {depth : Y → ℕ} {s : Tokens} {o : Option (reading.Found T)} {f : reading.Found T}
+    → o ≡ Some f → FoundAt Stands ends view depth s o → IsFound Stands ends view depth s f.built f.rest.now
+some_found {Stands = Stands} {ends = ends} {view = view} {depth = depth} {s = s} is h = subst (FoundAt Stands ends view depth s) is h
+
+pub none_found : {T Y : Type 0} (Stands : Tokens → Tokens → Y → Type 0) (ends : Tokens → Type 0) (view : T → Y) (depth : Y → ℕ) (s : Tokens) {o : Option (reading.Found T)}
+    → o ≡ None → FoundAt Stands ends view depth s o → (q : Tokens) (z : Y) → Stands s q z → ends q → ⊥
+none_found Stands ends view depth s is h = subst (FoundAt Stands ends view depth s) is h
 
 -- with what was built and what follows under other names
 pub under : {T Y : Type 0} {Stands : Tokens → Tokens → Y → Type 0} {ends : Tokens → Type 0} {view : T → Y} {depth : Y → ℕ} {s : Tokens} {b b' : Built T} {r r' : Tokens}
@@ -164,17 +174,18 @@ no_default_behind s m x n kind h f none q z d i = at q z (subst (λ y. Parameter
   at q _ (l.a_parameter {m = y} {k = k} {d = d} u v) i = none q d (subst (λ o. Default o q d) (sym (f.only y k u (default_begins v i)).rest) v) i
 
 -- what is built of both is deep where one of them is
-pub both_deep : (n : Text) (k d : Option Expression) (kind default : Built (Option Expr)) (b : Built tree.Param) → IsBuilt maybe_of maybe_nesting k kind → IsBuilt maybe_of maybe_nesting d default
+pub both_deep : (n : Text) (k d : Option Expression) (kind default : Built (Option Expr)) → IsBuilt maybe_of maybe_nesting k kind → IsBuilt maybe_of maybe_nesting d default
     → both_built kind default ≡ TooDeep → IsBuilt param_of param_nesting (record { name = n; kind = k; default = d }) TooDeep
-both_deep n k d (Shallow a) (Shallow c) b h g is = absurd cc
-both_deep n k d (Shallow a) TooDeep b h g is = omega (arith, g)
-both_deep n k d TooDeep default b h g is = omega (arith, h)
+both_deep n k d (Shallow a) (Shallow c) h g is = absurd cc
+both_deep n k d (Shallow a) TooDeep h g is = omega (arith, g)
+both_deep n k d TooDeep default h g is = omega (arith, h)
 
 pub both_shallow : (n copy : Text) (k d : Option Expression) (kind default : Built (Option Expr)) (a c : Option Expr) → IsBuilt maybe_of maybe_nesting k kind → IsBuilt maybe_of maybe_nesting d default
     → both_built kind default ≡ Shallow (a, c) → copy ≡ n → IsBuilt param_of param_nesting (record { name = n; kind = k; default = d }) (Shallow (record { name = copy; kind = a; default = c }))
 both_shallow n copy k d (Shallow a') (Shallow c') a c h g is same =
-    let first : a' ≡ a = cc in
-    let second : c' ≡ c = cc in
+    let pairs : (a', c') ≡ (a, c) = cc in
+    let first : a' ≡ a = ap (λ (p : Option Expr × Option Expr). p.0) pairs in
+    let second : c' ≡ c = ap (λ (p : Option Expr × Option Expr). p.1) pairs in
     let kinds : maybe_of a ≡ k = ap maybe_of (sym first) ∙ h.1 in
     let defaults : maybe_of c ≡ d = ap maybe_of (sym second) ∙ g.1 in
     (omega (arith, h.0, g.0), cc)
