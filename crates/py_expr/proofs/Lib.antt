@@ -9,4 +9,5 @@ pub mod Fronts
 pub mod OneForm
 pub mod ForNames
 pub mod FoundAt
+pub mod ParameterLists
 pub mod NameLists

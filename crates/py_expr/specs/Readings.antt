@@ -1,12 +1,13 @@
 -- No definition of the language: what is known of a thing that was read at the front of tokens.
-use Rattle.std.specs.Prelude.{◌≡◌, ◌≤◌, ◌<◌, ℕ, ◌∷◌, Option, Some, None}
+use Rattle.std.specs.Prelude.{◌≡◌, ◌≤◌, ◌<◌, ℕ, List, ◌∷◌, Option, Some, None}
 use Rattle.py_expr.specs.declared.phrase.Built.{Built}
 use Rattle.py_expr.specs.declared.phrase.Built.TheVariants.{Shallow, TooDeep}
 use Rattle.py_expr.specs.declared.found.Found.{Found}
-use Rattle.py_tree.specs.Syntax.{Expression, Target}
+use Rattle.py_tree.specs.Syntax.{Text, Expression, Target, Param}
 use Rattle.py_expr.specs.Tokens as t
 use Rattle.py_expr.specs.Grammar.{Tokens, Spells, E, L}
-use Rattle.py_expr.specs.Lines.{Names}
+use Rattle.py_lexer.specs.declared.token.Token.TheVariants as token
+use Rattle.py_expr.specs.Lines.{Names, Parameters, Base}
 
 -- the same thing, with the same behind it
 pub record Same {A : Type 0} (a b : A) (r q : Tokens) : Type 0 where
@@ -41,6 +42,12 @@ InParentheses s r g = Names (t.left_paren ∷ s) (t.in_ ∷ r) g
 abbrev pub BeforeColon : Tokens → Tokens → Expression → Type 0
 BeforeColon s r e = Spells E s (t.colon ∷ r) e
 
+abbrev pub BeforeParen : Tokens → Tokens → List Param → Type 0
+BeforeParen s r ps = Parameters s (t.right_paren ∷ r) ps
+
+abbrev pub BaseBehind : Text → Tokens → Tokens → Option Expression → Type 0
+BaseBehind name s r b = Base (t.left_paren ∷ token.Name name ∷ s) r b
+
 abbrev pub ListBeforeColon : Tokens → Tokens → Expression → Type 0
 ListBeforeColon s r e = Spells L s (t.colon ∷ r) e
 
@@ -54,3 +61,8 @@ built_on make TooDeep = TooDeep
 abbrev pub both_built : {A B : Type 0} → Built A → Built B → Built (A × B)
 both_built (Shallow a) second = built_on (λ b. (a, b)) second
 both_built TooDeep second = TooDeep
+
+-- what was built, where `)` follows
+abbrev pub IsClosed : {T : Type 0} → Built T → Tokens → Option (Found T) → Type 0
+IsClosed built s None = (r : Tokens) → s ≡ t.right_paren ∷ r → ⊥
+IsClosed built s (Some found) = (found.built ≡ built) × (s ≡ t.right_paren ∷ found.rest.now)
