@@ -9,5 +9,6 @@ pub mod Fronts
 pub mod OneForm
 pub mod ForNames
 pub mod FoundAt
+pub mod Shorter
 pub mod ParameterLists
 pub mod NameLists

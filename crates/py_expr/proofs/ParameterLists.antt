@@ -163,8 +163,3 @@ no_parameter_there s rest params so_far paren none q zs d i = at rest (so_far.co
   at _ _ l.no_parameter e = paren q (sym e)
   at y _ (l.last_parameter {p = p} u) e = none (t.right_paren ∷ q) p (subst (λ z. Parameter z (t.right_paren ∷ q) p) e u) tt
   at y _ (l.next_parameter {m = n} {p = p} {ps = ps} u us) e = none (t.comma ∷ n) p (subst (λ z. Parameter z (t.comma ∷ n) p) e u) tt
-
--- a parameter takes a token or more
-kind_shrinks : {s r : Tokens} {k : _} → l.Annotation s r k → length r ≤ length s
-kind_shrinks l.unannotated = omega arith
-kind_shrinks (l.annotated d) = ?
