@@ -13,8 +13,11 @@ use Rattle.py_expr.specs.Lines as l
 use Rattle.py_expr.specs.Lines.{Parameter, Parameters}
 use Rattle.py_expr.specs.LineEnds.{Anything, EndsParameter}
 use Rattle.py_expr.specs.Depth.{param_nesting, params_nesting}
-use Rattle.py_expr.specs.Readings.{Same, IsBuilt, IsFound, BeforeParen, both_built}
+use Rattle.py_expr.specs.Readings.{Same, IsBuilt, IsClosed, IsFound, FoundAt, BeforeParen, both_built}
+use Rattle.py_expr.specs.declared.found.Found as reading
 use Rattle.py_expr.proofs.OneForm.{behind}
+use Rattle.py_expr.proofs.FoundAt.{under}
+use Rattle.py_expr.proofs.Shorter.{parameter_shorter}
 
 -- ---- with one more
 
@@ -67,7 +70,7 @@ append_none (p ∷ ps) = ap (λ z. p ∷ z) (append_none ps)
 
 -- ---- at the end
 
-nothing_left : (m q : Tokens) (zs : List Param) → BeforeParen (t.right_paren ∷ m) q zs → Same ([] {A = Param}) zs m q
+nothing_left : (m q : Tokens) (zs : List Param) → BeforeParen (t.right_paren ∷ m) q zs → Same {A = List Param} [] zs m q
 nothing_left m _ _ l.no_parameter = record { thing = refl; rest = refl }
 nothing_left m q _ (l.last_parameter u) = elim u [ ]
 nothing_left m q _ (l.next_parameter u us) = elim u [ ]
@@ -156,6 +159,12 @@ module _ (rest r : Tokens) (param : Built tree.Param) (f : IsFound Parameter End
     at y _ (l.last_parameter {p = p} u) e = paren q (f.only (t.right_paren ∷ q) p (subst (λ z. Parameter z (t.right_paren ∷ q) p) e u) tt).rest
     at y _ (l.next_parameter {m = n} {p = p} {ps = ps} u us) e = comma n (f.only (t.comma ∷ n) p (subst (λ z. Parameter z (t.comma ∷ n) p) e u) tt).rest
 
+  pub closed_found : (s : Tokens) (params more : Built (List tree.Param)) (so_far : SoFar s rest params) → ((m : Tokens) → r ≡ t.comma ∷ m → ⊥)
+      → ((ps : List Param) (p : Param) → IsBuilt params_of params_nesting ps params → IsBuilt param_of param_nesting p param → IsBuilt params_of params_nesting (ps ++ p ∷ []) more)
+      → (o : Option (reading.Found (List tree.Param))) → IsClosed more r o → FoundAt BeforeParen Anything params_of params_nesting s o
+  closed_found s params more so_far comma makes None h = not_closed s params so_far comma h
+  closed_found s params more so_far comma makes (Some found) h = under h.0 refl (last_found s found.rest.now params more so_far h.1 makes)
+
 pub no_parameter_there : (s rest : Tokens) (params : Built (List tree.Param)) → SoFar s rest params → ((m : Tokens) → rest ≡ t.right_paren ∷ m → ⊥) → ((q : Tokens) (z : Param) → Parameter rest q z → EndsParameter q → ⊥)
     → (q : Tokens) (zs : List Param) → BeforeParen s q zs → Anything q → ⊥
 no_parameter_there s rest params so_far paren none q zs d i = at rest (so_far.comes_back q zs d).others (so_far.comes_back q zs d).stand refl where
@@ -163,3 +172,6 @@ no_parameter_there s rest params so_far paren none q zs d i = at rest (so_far.co
   at _ _ l.no_parameter e = paren q (sym e)
   at y _ (l.last_parameter {p = p} u) e = none (t.right_paren ∷ q) p (subst (λ z. Parameter z (t.right_paren ∷ q) p) e u) tt
   at y _ (l.next_parameter {m = n} {p = p} {ps = ps} u us) e = none (t.comma ∷ n) p (subst (λ z. Parameter z (t.comma ∷ n) p) e u) tt
+
+pub found_shorter : (s r : Tokens) (b : Built tree.Param) → IsFound Parameter EndsParameter param_of param_nesting s b r → length r < length s
+found_shorter s r b f = parameter_shorter f.stands
