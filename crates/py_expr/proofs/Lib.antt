@@ -11,4 +11,5 @@ pub mod ForNames
 pub mod FoundAt
 pub mod Shorter
 pub mod ParameterLists
+pub mod BaseFacts
 pub mod NameLists

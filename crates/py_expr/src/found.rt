@@ -1,8 +1,10 @@
-ghost use Rattle.std.specs.Prelude.{◌≡◌, Some};
+ghost use Rattle.std.specs.Prelude.{◌≡◌, Some, None};
+ghost use Rattle.py_expr.specs.declared.phrase.Built.TheVariants as Built;
 ghost use Rattle.py_expr.specs.Readings.{built_on, both_built};
 
 use crate::phrase::Built;
 use py_lexer::token::Token;
+use py_tree::expression::Expr;
 use std::alloc::AllocError;
 
 /// What a reading at the front of tokens answers.
@@ -16,7 +18,7 @@ pub(crate) struct Found<'a, T> {
 }
 
 /// What was built, as what is there.
-pub(crate) fn optional<T>(built: Built<T>) -> Built<Option<T>>
+fn optional<T>(built: Built<T>) -> Built<Option<T>>
     ensures { result ≡ built_on Some built }
 {
     match built {
@@ -41,5 +43,28 @@ fn beside<A: Drop, B>(first: A, second: Built<B>) -> Built<(A, B)>
     match second {
         Built::Shallow(second) => Built::Shallow((first, second)),
         Built::TooDeep => Built::TooDeep,
+    }
+}
+
+/// No expression.
+pub(crate) fn absent(rest: &[Token]) -> Found<'_, Option<Expr>>
+    ensures built { result.built ≡ Built.Shallow None }
+    ensures rest { result.rest.now ≡ rest.now }
+{
+    Found {
+        built: Built::Shallow(None),
+        rest,
+    }
+}
+
+/// The expression that was found.
+pub(crate) fn present(found: Found<'_, Expr>) -> Found<'_, Option<Expr>>
+    ensures built { result.built ≡ built_on Some found.entry.built }
+    ensures rest { result.rest.now ≡ found.entry.rest.now }
+{
+    let Found { built, rest } = found;
+    Found {
+        built: optional(built),
+        rest,
     }
 }

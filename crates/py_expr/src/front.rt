@@ -1,5 +1,6 @@
 ghost use Rattle.std.specs.Prelude.{◌≡◌, ◌∷◌, MatchOption};
 ghost use Rattle.py_expr.specs.Grammar.{Tokens};
+ghost use Rattle.py_expr.specs.Tokens as t;
 ghost use Rattle.py_lexer.specs.declared.token.Token.TheVariants as token;
 
 use py_lexer::token::{Keyword, Mark, Token};
@@ -31,6 +32,26 @@ pub(crate) fn after_name(tokens: &[Token]) -> Option<(&Text, &[Token])>
 {
     match tokens {
         [Token::Name(name), rest @ ..] => Some((name, rest)),
+        _ => None,
+    }
+}
+
+/// The keyword at the front with what follows it, where one stands there.
+pub(crate) fn first_word(tokens: &[Token]) -> Option<(Keyword, &[Token])>
+    ensures { MatchOption result ((w : _) (r : Tokens) → tokens.now ≡ token.Word w ∷ r → ⊥) (λ found. tokens.now ≡ token.Word found.0 ∷ found.1.now) }
+{
+    match tokens {
+        [Token::Word(word), rest @ ..] => Some((*word, rest)),
+        _ => None,
+    }
+}
+
+/// What follows `)` and `:`, where they stand at the front.
+pub(crate) fn after_closed_head(tokens: &[Token]) -> Option<&[Token]>
+    ensures { MatchOption result ((r : Tokens) → tokens.now ≡ t.right_paren ∷ t.colon ∷ r → ⊥) (λ rest. tokens.now ≡ t.right_paren ∷ t.colon ∷ rest.now) }
+{
+    match tokens {
+        [Token::Mark(Mark::RightParen), Token::Mark(Mark::Colon), rest @ ..] => Some(rest),
         _ => None,
     }
 }

@@ -1,6 +1,7 @@
 //! The line grammar: the one form that the tokens of a logical line spell.
 #![tactic(auto)]
 
+mod bases;
 mod call;
 mod expressions;
 mod for_names;

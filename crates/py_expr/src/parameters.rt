@@ -11,7 +11,7 @@ ghost use Rattle.py_expr.specs.declared.phrase.Built.TheVariants as Built;
 use crate::expressions::{expression, expression_before_colon};
 use crate::front::{after_mark, after_name};
 use crate::phrase::Built;
-use crate::found::{both, optional, Found, Reading};
+use crate::found::{absent, both, present, Found, Reading};
 use py_lexer::token::{Mark, Token};
 use py_tree::expression::{Expr, Param, Params};
 use py_tree::text::Text;
@@ -56,29 +56,6 @@ pub(crate) fn result_kind<'a>(alloc: Global, tokens: &'a [Token]) -> Reading<'a,
     match expression_before_colon(alloc, rest)? {
         Some(found) => Ok(Some(present(found))),
         None => Ok(None),
-    }
-}
-
-/// No expression.
-fn absent(rest: &[Token]) -> Found<'_, Option<Expr>>
-    ensures built { result.built ≡ Built.Shallow None }
-    ensures rest { result.rest.now ≡ rest.now }
-{
-    Found {
-        built: Built::Shallow(None),
-        rest,
-    }
-}
-
-/// The expression that was found.
-fn present(found: Found<'_, Expr>) -> Found<'_, Option<Expr>>
-    ensures built { result.built ≡ built_on Some found.entry.built }
-    ensures rest { result.rest.now ≡ found.entry.rest.now }
-{
-    let Found { built, rest } = found;
-    Found {
-        built: optional(built),
-        rest,
     }
 }
 
