@@ -6,3 +6,5 @@ pub mod Names
 pub mod Calling
 pub mod Reading
 pub mod Fronts
+pub mod Taking
+pub mod Answering

@@ -9,3 +9,5 @@ pub mod Emitted
 pub mod Views
 pub mod Phrases
 pub mod Readers
+pub mod Stacks
+pub mod Laws

@@ -1,6 +1,7 @@
 //! The line grammar: the one form that the tokens of a logical line spell.
 #![tactic(auto)]
 
+mod build;
 mod call;
 pub mod form;
 mod machine;
@@ -9,3 +10,4 @@ mod operand;
 mod operator;
 pub mod phrase;
 mod reader;
+
