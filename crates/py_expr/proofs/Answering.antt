@@ -5,10 +5,10 @@ use Rattle.py_tree.specs.declared.expression.Expr.{Expr}
 use Rattle.py_expr.specs.declared.phrase.Phrase.{Phrase}
 use Rattle.py_expr.specs.declared.phrase.Built.{Built}
 use Rattle.py_expr.specs.declared.phrase.Built.TheVariants.{Shallow, TooDeep}
-use Rattle.py_expr.specs.Emitted.{emit, trees, nestings}
+use Rattle.py_expr.specs.Emitted.{trees, nestings}
 use Rattle.py_expr.specs.Views.{steps_of}
 use Rattle.py_expr.specs.Stacks.{BuildsTop}
-use Rattle.py_expr.specs.Phrases.{Is, BuildsExpression}
+use Rattle.py_expr.specs.Phrases.{BuildsExpression}
 use Rattle.py_expr.proofs.Builds.{grows}
 use Rattle.py_expr.proofs.Nested.{nests}
 

@@ -1,5 +1,5 @@
 -- No definition of the language: the stack of trees as the code keeps it.
-use Rattle.std.specs.Prelude.{◌≡◌, ℕ, List, [], ◌∷◌, map, reverse, Option, Some, None}
+use Rattle.std.specs.Prelude.{◌≡◌, List, [], ◌∷◌, map, reverse, Option, Some, None}
 use Rattle.py_tree.specs.Syntax as x
 use Rattle.py_tree.specs.Syntax.{Expression}
 use Rattle.py_tree.specs.Joined.{expression_of, expressions_of, pair_of, pairs_of, keywords_of}

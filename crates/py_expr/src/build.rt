@@ -118,7 +118,10 @@ fn make_binary(alloc: Global, trees: &mut Vec<Expr>, op: BinaryOp) -> Result<(),
     let Some(a) = trees.pop() else {
         return Ok(());
     };
-    put(trees, Expr::Binary(op, Boxed::new(alloc, a)?, Boxed::new(alloc, b)?))
+    put(
+        trees,
+        Expr::Binary(op, Boxed::new(alloc, a)?, Boxed::new(alloc, b)?),
+    )
 }
 
 fn make_compare(alloc: Global, trees: &mut Vec<Expr>, op: CompareOp) -> Result<(), AllocError>
@@ -130,7 +133,10 @@ fn make_compare(alloc: Global, trees: &mut Vec<Expr>, op: CompareOp) -> Result<(
     let Some(a) = trees.pop() else {
         return Ok(());
     };
-    put(trees, Expr::Compare(op, Boxed::new(alloc, a)?, Boxed::new(alloc, b)?))
+    put(
+        trees,
+        Expr::Compare(op, Boxed::new(alloc, a)?, Boxed::new(alloc, b)?),
+    )
 }
 
 fn make_and(alloc: Global, trees: &mut Vec<Expr>) -> Result<(), AllocError>
@@ -142,7 +148,10 @@ fn make_and(alloc: Global, trees: &mut Vec<Expr>) -> Result<(), AllocError>
     let Some(a) = trees.pop() else {
         return Ok(());
     };
-    put(trees, Expr::And(Boxed::new(alloc, a)?, Boxed::new(alloc, b)?))
+    put(
+        trees,
+        Expr::And(Boxed::new(alloc, a)?, Boxed::new(alloc, b)?),
+    )
 }
 
 fn make_or(alloc: Global, trees: &mut Vec<Expr>) -> Result<(), AllocError>
@@ -154,7 +163,10 @@ fn make_or(alloc: Global, trees: &mut Vec<Expr>) -> Result<(), AllocError>
     let Some(a) = trees.pop() else {
         return Ok(());
     };
-    put(trees, Expr::Or(Boxed::new(alloc, a)?, Boxed::new(alloc, b)?))
+    put(
+        trees,
+        Expr::Or(Boxed::new(alloc, a)?, Boxed::new(alloc, b)?),
+    )
 }
 
 fn make_index(alloc: Global, trees: &mut Vec<Expr>) -> Result<(), AllocError>
@@ -166,7 +178,10 @@ fn make_index(alloc: Global, trees: &mut Vec<Expr>) -> Result<(), AllocError>
     let Some(a) = trees.pop() else {
         return Ok(());
     };
-    put(trees, Expr::Index(Boxed::new(alloc, a)?, Boxed::new(alloc, b)?))
+    put(
+        trees,
+        Expr::Index(Boxed::new(alloc, a)?, Boxed::new(alloc, b)?),
+    )
 }
 
 /// A conditional from its parts.

@@ -10,4 +10,5 @@ mod operand;
 mod operator;
 pub mod phrase;
 mod reader;
-
+#[cfg(test)]
+mod tests;

@@ -1,7 +1,6 @@
-use Rattle.std.proofs.Common.{ap, ◌∙◌, sym}
 use Rattle.py_tree.specs.Syntax as x
 use Rattle.py_expr.specs.Emitted.{take_pairs}
-use Rattle.py_expr.specs.Stacks.{trees_of, maybe_pair}
+use Rattle.py_expr.specs.Stacks.{trees_of}
 use Rattle.py_expr.proofs.Taking.{pairs_loop}
 use Rattle.py_expr.proofs.build.take_pairs.Goals as goal
 
