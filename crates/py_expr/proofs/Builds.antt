@@ -1,5 +1,5 @@
 -- The steps of a phrase build its tree. So there is one phrase at a front.
-use Rattle.std.proofs.Common.{◌≡◌, ℕ, zero, suc, ◌+◌, ◌≤◌, max, List, [], ◌∷◌, ◌++◌, Option, Some, None, refl, sym, ap, subst, ◌∙◌, arith}
+use Rattle.std.proofs.Common.{◌≡◌, ℕ, suc, ◌+◌, List, [], ◌∷◌, Some, refl, sym, ap, ◌∙◌, arith}
 use Rattle.py_tree.specs.Syntax as x
 use Rattle.py_tree.specs.Syntax.{Text, Expression, Expressions, Pairs, Keywords}
 use Rattle.py_expr.specs.Grammar as g

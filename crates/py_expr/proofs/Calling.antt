@@ -1,5 +1,5 @@
 -- A call that ends, as the code finds it.
-use Rattle.std.proofs.Common.{◌≡◌, take, List, [], ◌∷◌, Option, Some, None, Result, Ok, Err, IfOk, sym, ap, subst, ◌∙◌}
+use Rattle.std.proofs.Common.{◌≡◌, take, List, [], ◌∷◌, Option, Some, Result, Ok, Err, IfOk, ap, subst, ◌∙◌}
 use Rattle.std.specs.declared.alloc.AllocError.{AllocError}
 use Rattle.py_tree.specs.Syntax.{Text}
 use Rattle.py_expr.specs.declared.machine.Frame as code

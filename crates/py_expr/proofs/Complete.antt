@@ -1,7 +1,7 @@
 -- What is spelled is read.
 use Rattle.std.proofs.Common.{◌≡◌, ℕ, zero, suc, ◌+◌, ◌≤◌, Bool, true, false, not, ◌&&◌, ◌||◌, length, List, [], ◌∷◌, Option, Some, None, refl, sym, ap, subst, ◌∙◌, arith}
 use Rattle.std.proofs.lemmas.Bool.{le-leb}
-use Rattle.std.specs.Prelude.{nat_le, cond}
+use Rattle.std.specs.Prelude.{cond}
 use Rattle.std.specs.Str.{bytes_eq}
 use Rattle.py_tree.specs.Syntax as x
 use Rattle.py_tree.specs.Syntax.{Text, Expression, Expressions, Pairs, Keywords}
@@ -526,8 +526,8 @@ module _ (w : Level) where
     complete (g.a_tuple {m = m'} {es = es} d i) = λ b fs o.
         let x = complete d true (open_at b 0 ∷ fs) o (open_wants b 0 fs) in
         behind_tuple m' (emit d o) (1 + count es) (emit_items i (emit d o))
-            (x.reached ∙ at_comma x.to x.is_behind m' x.frames (open_at b 0 ∷ fs) x.steps (emit d o) (state m.Next (open_at b 1 ∷ fs) (emit d o)) (x.closes 8 (omega arith) ∙ open_closed b 0 fs (emit d o)) (next_item b 0 fs (emit d o)))
-            (complete_items i b 1 fs (emit d o)) (ap (λ k. m.MakeTuple k ∷ emit_items i (emit d o)) (omega arith))
+        (x.reached ∙ at_comma x.to x.is_behind m' x.frames (open_at b 0 ∷ fs) x.steps (emit d o) (state m.Next (open_at b 1 ∷ fs) (emit d o)) (x.closes 8 (omega arith) ∙ open_closed b 0 fs (emit d o)) (next_item b 0 fs (emit d o)))
+        (complete_items i b 1 fs (emit d o)) (ap (λ k. m.MakeTuple k ∷ emit_items i (emit d o)) (omega arith))
     complete (g.single d) = λ b fs o.
         let x = complete d true (open_at b 0 ∷ fs) o (open_wants b 0 fs) in
         behind_one x.to x.frames x.steps x.is_behind x.reached (x.closes 8 (omega arith) ∙ open_closed b 0 fs (emit d o))
@@ -540,8 +540,8 @@ module _ (w : Level) where
     complete_items (g.next_item {m = m'} {es = es} d i) = λ b n fs o.
         let x = complete d true (open_at b n ∷ fs) o (open_wants b n fs) in
         recount b n (suc n + count es) (n + suc (count es)) (omega arith)
-            (ahead b n (suc n) (x.reached ∙ at_comma x.to x.is_behind m' x.frames (open_at b n ∷ fs) x.steps (emit d o) (state m.Next (open_at b (suc n) ∷ fs) (emit d o)) (x.closes 8 (omega arith) ∙ open_closed b n fs (emit d o)) (next_item b n fs (emit d o)))
-            (omega arith) (complete_items i b (suc n) fs (emit d o)))
+        (ahead b n (suc n) (x.reached ∙ at_comma x.to x.is_behind m' x.frames (open_at b n ∷ fs) x.steps (emit d o) (state m.Next (open_at b (suc n) ∷ fs) (emit d o)) (x.closes 8 (omega arith) ∙ open_closed b n fs (emit d o)) (next_item b n fs (emit d o)))
+        (omega arith) (complete_items i b (suc n) fs (emit d o)))
 
     complete_entries : {s r : Tokens} {ps : Pairs} (i : Entries s r ps) → (n : ℕ) (fs : Frames) (o : Steps) → ReachesEntries n s r fs o (n + count_pairs ps) (emit_entries i o)
     complete_entries g.no_pair = λ n fs o. behind_pair n refl (omega arith)
@@ -549,15 +549,15 @@ module _ (w : Level) where
         let x = complete d true (m.Entry n ∷ fs) o (omega arith) in
         let y = complete v false (m.Value n ∷ fs) (emit d o) (omega arith) in
         behind_value n y.to y.frames y.steps y.is_behind
-            (x.reached ∙ at_colon x.to x.is_behind m' x.frames (m.Entry n ∷ fs) x.steps (emit d o) (state m.Want (m.Value n ∷ fs) (emit d o)) (x.closes 8 (omega arith)) refl ∙ y.reached)
-            (y.closes 8 (omega arith)) (omega arith)
+        (x.reached ∙ at_colon x.to x.is_behind m' x.frames (m.Entry n ∷ fs) x.steps (emit d o) (state m.Want (m.Value n ∷ fs) (emit d o)) (x.closes 8 (omega arith)) refl ∙ y.reached)
+        (y.closes 8 (omega arith)) (omega arith)
     complete_entries (g.next_pair {m = m'} {n = m''} {ps = ps} d v i) = λ n fs o.
         let x = complete d true (m.Entry n ∷ fs) o (omega arith) in
         let y = complete v false (m.Value n ∷ fs) (emit d o) (omega arith) in
         pair_ahead n (suc n) (suc n + count_pairs ps) (n + suc (count_pairs ps)) (omega arith)
-            (x.reached ∙ at_colon x.to x.is_behind m' x.frames (m.Entry n ∷ fs) x.steps (emit d o) (state m.Want (m.Value n ∷ fs) (emit d o)) (x.closes 8 (omega arith)) refl
-            ∙ y.reached ∙ at_comma y.to y.is_behind m'' y.frames (m.Value n ∷ fs) y.steps (emit v (emit d o)) (state m.Next (m.Entry (suc n) ∷ fs) (emit v (emit d o))) (y.closes 8 (omega arith)) refl)
-            (complete_entries i (suc n) fs (emit v (emit d o)))
+        (x.reached ∙ at_colon x.to x.is_behind m' x.frames (m.Entry n ∷ fs) x.steps (emit d o) (state m.Want (m.Value n ∷ fs) (emit d o)) (x.closes 8 (omega arith)) refl
+        ∙ y.reached ∙ at_comma y.to y.is_behind m'' y.frames (m.Value n ∷ fs) y.steps (emit v (emit d o)) (state m.Next (m.Entry (suc n) ∷ fs) (emit v (emit d o))) (y.closes 8 (omega arith)) refl)
+        (complete_entries i (suc n) fs (emit v (emit d o)))
 
     complete_arguments : {s q : Tokens} {es : Expressions} {ks : Keywords} (i : Arguments s q es ks) → (r : Tokens) → q ≡ t.right_paren ∷ r → no_repeats (names_of ks) ≡ true → (n : ℕ) (fs : Frames) (o : Steps)
         → run w s m.Next (m.Call n ∷ fs) o ≡ run w r m.Have fs (m.MakeCall (n + count es) (count_keywords ks) ∷ emit_arguments i o)
@@ -589,7 +589,7 @@ module _ (w : Level) where
         let x = complete d false (m.Key name ∷ frames) (m.PutName name ∷ o) (omega arith) in
         at_keyword ns name n s fs o ∙ x.reached ∙ ap (λ (q : Tokens). run w q x.to x.frames x.steps) e
         ∙ at_paren x.to x.is_behind r x.frames (m.Key name ∷ frames) x.steps out (state m.Have fs (m.MakeCall n (length (onto ns (name ∷ []))) ∷ out)) (x.closes 8 (omega arith))
-            (calls ns (name ∷ []) n fs out ∙ is_called n (onto ns (name ∷ [])) fs out h)
+        (calls ns (name ∷ []) n fs out ∙ is_called n (onto ns (name ∷ [])) fs out h)
     complete_keywords (g.next_keyword {s = s} {m = m'} {n = name} d i) = λ r e ns h n fs o.
         let frames : Frames = under ns (m.Call n ∷ fs) in
         let out : Steps = emit d (m.PutName name ∷ o) in

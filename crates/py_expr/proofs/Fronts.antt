@@ -1,13 +1,11 @@
 -- What is read at a front is the phrase there, or there is none.
-use Rattle.std.proofs.Common.{◌≡◌, List, [], Option, Some, None, Result, Ok, Err, IfOk, refl, sym, ◌∙◌}
+use Rattle.std.proofs.Common.{◌≡◌, [], Option, Some, None, Result, Ok, Err, IfOk, refl, sym, ◌∙◌}
 use Rattle.std.specs.declared.alloc.AllocError.{AllocError}
-use Rattle.py_tree.specs.Syntax.{Expression}
 use Rattle.py_expr.specs.declared.phrase.Phrase.{Phrase}
-use Rattle.py_expr.specs.Grammar.{Tokens, Level, Spells}
-use Rattle.py_expr.specs.Ends.{IsEnd}
-use Rattle.py_expr.specs.Machine.{Read, read, read_to}
+use Rattle.py_expr.specs.Grammar.{Tokens, Level}
+use Rattle.py_expr.specs.Machine.{read, read_to}
 use Rattle.py_expr.specs.Emitted.{emit}
-use Rattle.py_expr.specs.Phrases.{Is, AtFront, as_read}
+use Rattle.py_expr.specs.Phrases.{AtFront, as_read}
 use Rattle.py_expr.proofs.Complete.{is_read}
 use Rattle.py_expr.proofs.Sound.{IsWhole, is_spelled}
 

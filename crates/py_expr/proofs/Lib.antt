@@ -6,6 +6,8 @@ pub mod Names
 pub mod Calling
 pub mod Reading
 pub mod Fronts
+pub mod Taking
+pub mod Answering
 pub mod OneForm
 pub mod ForNames
 pub mod FoundAt

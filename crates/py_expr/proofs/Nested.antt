@@ -1,5 +1,5 @@
 -- The steps of a phrase count its nesting.
-use Rattle.std.proofs.Common.{◌≡◌, ℕ, zero, suc, ◌+◌, ◌-◌, ◌<◌, ◌≤◌, max, List, [], ◌∷◌, Option, Some, None, refl, sym, ap, ◌∙◌, arith}
+use Rattle.std.proofs.Common.{◌≡◌, ℕ, suc, ◌+◌, ◌-◌, ◌<◌, ◌≤◌, max, List, [], ◌∷◌, Some, None, refl, ap, ◌∙◌, arith}
 use Rattle.py_tree.specs.Syntax as x
 use Rattle.py_tree.specs.Syntax.{Expression, Expressions, Pairs, Keywords}
 use Rattle.py_tree.specs.Nesting.{nesting, deepest, deepest_pair, deepest_keyword}

@@ -4,7 +4,6 @@ use Rattle.std.proofs.lemmas.Bool.{leb-true}
 use Rattle.std.specs.Prelude.{nat_le, cond}
 use Rattle.py_tree.specs.Syntax as x
 use Rattle.py_tree.specs.Syntax.{Text, Expression, Expressions, Pairs, Keywords}
-use Rattle.py_tree.specs.declared.operator.UnaryOp.TheVariants as unary
 use Rattle.py_tree.specs.declared.operator.BinaryOp.TheVariants as binary
 use Rattle.py_tree.specs.declared.operator.CompareOp.{CompareOp}
 use Rattle.py_tree.specs.declared.operator.CompareOp.TheVariants as compare
@@ -256,8 +255,8 @@ close_ok : (k : ℕ) → k ≤ 8 → (s0 : Start) (r : Tokens) (fs : Frames) (o 
 close_ok k h s0 r [] o j p i q = absurd p.below
 close_ok k h s0 r (f ∷ fs) o j p i q =
     closed_or k s0 r (nat_le (makes f) k) (makes f) (close k fs (made f o)) (done (f ∷ fs) o) (leb-true (makes f) k)
-        (λ u. let y = pop_ok s0 r f fs o j p q (omega (arith, u, h)) in close_ok k h s0 r fs (made f o) y.level y.phrase (omega (arith, y.level_is, u)) y.fits)
-        (record { level = j; phrase = p; closed = i })
+    (λ u. let y = pop_ok s0 r f fs o j p q (omega (arith, u, h)) in close_ok k h s0 r fs (made f o) y.level y.phrase (omega (arith, y.level_is, u)) y.fits)
+    (record { level = j; phrase = p; closed = i })
 
 wants_one : (f : Frame) → 1 ≤ wants_behind f
 wants_one (m.Sign op) = omega arith
@@ -366,7 +365,7 @@ call_ok : (s0 : Start) (r : Tokens) (names : List Text) (fs : Frames) (base o : 
 call_ok s0 r names (m.Named other_ ∷ fs) base o q name v ks i p names_are o_is =
     let l = p.below in
     call_ok s0 r (other_ ∷ names) fs l.0 o (token.Name other_ ∷ t.equal ∷ p.from) other_ p.tree (x.more_keywords (x.Named name v) ks) (g.next_keyword p.spells i) l.2 (ap (λ (ns : List Text). other_ ∷ ns) names_are)
-        (o_is ∙ ap (emit_keywords i) (p.steps_are ∙ ap (emit p.spells) l.1))
+    (o_is ∙ ap (emit_keywords i) (p.steps_are ∙ ap (emit p.spells) l.1))
 call_ok s0 r names (m.Call n ∷ fs) base o q name v ks i p names_are o_is =
     let y = p.2 (t.right_paren ∷ r) x.end_of_expressions (x.more_keywords (x.Named name v) ks) (g.only_keywords i) in
     called_ok s0 r fs p.0 p.1 o n names p.3 y.0 (x.more_keywords (x.Named name v) ks) y.1 names_are (omega (arith, y.3)) (o_is ∙ sym y.2)
@@ -581,12 +580,12 @@ module _ (s0 : Start) (r : Tokens) where
           let d = close 3 fs o in
           let y = shut_to 3 (omega arith) (omega arith) t.not_ p in
           only_if s0 r (nat_le 4 (wants d.frames)) 4 (wants d.frames) (state m.NotIn d.frames d.steps) (leb-true 4 (wants d.frames))
-              (λ h. fitting S 4 s0 (t.not_ ∷ r) d.frames d.steps (as_S s0 (t.not_ ∷ r) d.frames d.steps y.level y.closed y.phrase) h)
+          (λ h. fitting S 4 s0 (t.not_ ∷ r) d.frames d.steps (as_S s0 (t.not_ ∷ r) d.frames d.steps y.level y.closed y.phrase) h)
       go (token.Word word.Is) p =
           let d = close 3 fs o in
           let y = shut_to 3 (omega arith) (omega arith) t.is_ p in
           only_if s0 r (nat_le 4 (wants d.frames)) 4 (wants d.frames) (state m.Is d.frames d.steps) (leb-true 4 (wants d.frames))
-              (λ h. fitting S 4 s0 (t.is_ ∷ r) d.frames d.steps (as_S s0 (t.is_ ∷ r) d.frames d.steps y.level y.closed y.phrase) h)
+          (λ h. fitting S 4 s0 (t.is_ ∷ r) d.frames d.steps (as_S s0 (t.is_ ∷ r) d.frames d.steps y.level y.closed y.phrase) h)
       go (token.Mark mark.Star) p = product_ok t.star binary.Mul g.times (close 2 fs o) (shut_to 2 (omega arith) (omega arith) t.star p)
       go (token.Mark mark.DoubleSlash) p = product_ok t.double_slash binary.FloorDiv g.floor_division (close 2 fs o) (shut_to 2 (omega arith) (omega arith) t.double_slash p)
       go (token.Mark mark.Percent) p = product_ok t.percent binary.Mod g.remainder (close 2 fs o) (shut_to 2 (omega arith) (omega arith) t.percent p)
@@ -793,7 +792,7 @@ run_ok : (s0 : Start) → IsWhole s0.level → (r : Tokens) (mode : Mode) (fs : 
 run_ok s0 w [] mode fs o p = with_rest_ok s0 [] (finish mode fs o) (nothing_ends s0.level w) (finish_ok s0 [] mode fs o p)
 run_ok s0 w (c ∷ r) mode fs o p =
     goes_on s0 r (step mode fs o c) (stop (ends s0.level c) mode fs o (c ∷ r)) (λ mode fs o p. run_ok s0 w r mode fs o p) (step_ok s0 r mode fs o c p)
-        (stop_ok s0 (c ∷ r) (ends s0.level c) mode fs o (is_end s0.level w c r) p)
+    (stop_ok s0 (c ∷ r) (ends s0.level c) mode fs o (is_end s0.level w c r) p)
 
 pub record IsPhrase (k : Level) (s : Tokens) (y : Read) : Type 0 where
   pub tree : Expression

@@ -11,15 +11,15 @@ use Rattle.py_expr.specs.declared.form.Form as form
 use Rattle.py_expr.specs.declared.form.Form.TheVariants as a_form
 
 pub data Head : Type 0 where
-  If : Expression → Head                                        -- if E:
-  Elif : Expression → Head                                      -- elif E:
-  Else : Head                                                   -- else:
-  While : Expression → Head                                     -- while E:
-  For : Target → Expression → Head                              -- for T in E:
-  Try : Head                                                    -- try:
-  Except : Option Expression → Option Text → Head               -- except E as NAME:
-  Def : Text → List Param → Option Expression → Head            -- def NAME(NAME: E = E, ..) -> E:
-  Class : Text → Option Expression → Head                       -- class NAME(E):
+  If : Expression → Head  -- if E:
+  Elif : Expression → Head  -- elif E:
+  Else : Head  -- else:
+  While : Expression → Head  -- while E:
+  For : Target → Expression → Head  -- for T in E:
+  Try : Head  -- try:
+  Except : Option Expression → Option Text → Head  -- except E as NAME:
+  Def : Text → List Param → Option Expression → Head  -- def NAME(NAME: E = E, ..) -> E:
+  Class : Text → Option Expression → Head  -- class NAME(E):
 
 pub data Form : Type 0 where
   Header : Head → Option Kind → Form

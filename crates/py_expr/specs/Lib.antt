@@ -9,6 +9,8 @@ pub mod Emitted
 pub mod Views
 pub mod Phrases
 pub mod Readers
+pub mod Stacks
+pub mod Laws
 pub mod LineAnswers
 pub mod Readings
 pub mod LineEnds

@@ -15,20 +15,20 @@ use Rattle.py_lexer.specs.declared.token.Token.{Token}
 use Rattle.py_lexer.specs.declared.token.Token.TheVariants as token
 use Rattle.py_lexer.specs.declared.token.Keyword.TheVariants as word
 use Rattle.py_lexer.specs.declared.token.Mark.TheVariants as mark
-use Rattle.py_expr.specs.Grammar.{Tokens, Level, E, L}
+use Rattle.py_expr.specs.Grammar.{Tokens, Level, L}
 
 -- what has been opened and waits for an expression; a number counts the items before a comma
 pub data Frame : Type 0 where
-  Line : ℕ → Frame -- the whole phrase, of level L
-  Lone : Frame -- the whole phrase, of level E
-  Group : ℕ → Frame -- behind `(`
-  Index : ℕ → Frame -- behind a primary and `[`
-  Listed : ℕ → Frame -- behind `[`
-  Entry : ℕ → Frame -- behind `{`: a key is wanted
-  Value : ℕ → Frame -- behind a key and `:`
-  Call : ℕ → Frame -- behind a primary and `(`
-  Key : Text → Frame -- behind NAME `=` of a call
-  Named : Text → Frame -- behind a keyword argument and its comma
+  Line : ℕ → Frame  -- the whole phrase, of level L
+  Lone : Frame  -- the whole phrase, of level E
+  Group : ℕ → Frame  -- behind `(`
+  Index : ℕ → Frame  -- behind a primary and `[`
+  Listed : ℕ → Frame  -- behind `[`
+  Entry : ℕ → Frame  -- behind `{`: a key is wanted
+  Value : ℕ → Frame  -- behind a key and `:`
+  Call : ℕ → Frame  -- behind a primary and `(`
+  Key : Text → Frame  -- behind NAME `=` of a call
+  Named : Text → Frame  -- behind a keyword argument and its comma
   Sign : UnaryOp → Frame
   Product : BinaryOp → Frame
   Sum : BinaryOp → Frame
@@ -36,20 +36,20 @@ pub data Frame : Type 0 where
   Negation : Frame
   And : Frame
   Or : Frame
-  Test : Frame -- behind `if`
-  Other : Frame -- behind `else`
+  Test : Frame  -- behind `if`
+  Other : Frame  -- behind `else`
 
 -- a step of building trees on a stack of trees
 pub data Step : Type 0 where
   PutName : Text → Step
   PutInt : ℕ → Step
   PutText : Text → Step
-  JoinText : Text → Step -- to the text on the stack
+  JoinText : Text → Step  -- to the text on the stack
   PutConstant : Const → Step
-  Grouped : Step -- the tree on the stack stands in parentheses
-  MakeTuple : ℕ → Step -- of that many trees
+  Grouped : Step  -- the tree on the stack stands in parentheses
+  MakeTuple : ℕ → Step  -- of that many trees
   MakeList : ℕ → Step
-  MakeDict : ℕ → Step -- of that many keys with their values
+  MakeDict : ℕ → Step  -- of that many keys with their values
   MakeUnary : UnaryOp → Step
   MakeBinary : BinaryOp → Step
   MakeCompare : CompareOp → Step
@@ -60,17 +60,17 @@ pub data Step : Type 0 where
   MakeCond : Step
   MakeAttr : Text → Step
   MakeIndex : Step
-  MakeCall : ℕ → ℕ → Step -- of that many arguments, and of that many names with their values
+  MakeCall : ℕ → ℕ → Step  -- of that many arguments, and of that many names with their values
 
 pub data Mode : Type 0 where
-  Want : Mode -- an expression is wanted
-  Next : Mode -- an expression is wanted, or the bracket closes
-  Have : Mode -- a primary has been read
-  Dotted : Mode -- behind `.`
-  NotIn : Mode -- behind the `not` of `not in`
-  Is : Mode -- behind `is`
-  IsNot : Mode -- behind `is not`
-  Compared : Mode -- a comparison with a constant has been read
+  Want : Mode  -- an expression is wanted
+  Next : Mode  -- an expression is wanted, or the bracket closes
+  Have : Mode  -- a primary has been read
+  Dotted : Mode  -- behind `.`
+  NotIn : Mode  -- behind the `not` of `not in`
+  Is : Mode  -- behind `is`
+  IsNot : Mode  -- behind `is not`
+  Compared : Mode  -- a comparison with a constant has been read
 
 abbrev pub Frames : Type 0
 Frames = List Frame

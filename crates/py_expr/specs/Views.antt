@@ -1,5 +1,5 @@
 -- No definition of the language: the machine's lists as the code keeps them.
-use Rattle.std.specs.Prelude.{ℕ, Bool, List, [], ◌∷◌, map, reverse, Option, Some, None}
+use Rattle.std.specs.Prelude.{ℕ, List, [], ◌∷◌, map, reverse, Option, Some, None}
 use denote.Ref.{Bor}
 use Rattle.py_expr.specs.declared.machine.Step as code_step
 use Rattle.py_expr.specs.declared.machine.Step.TheVariants as s

@@ -2,6 +2,7 @@
 #![tactic(auto)]
 
 mod bases;
+mod build;
 mod call;
 mod expressions;
 mod for_names;
@@ -15,3 +16,5 @@ mod operator;
 mod parameters;
 pub mod phrase;
 mod reader;
+#[cfg(test)]
+mod tests;

@@ -89,7 +89,11 @@ impl<'a> Reader<'a> {
         }
     }
 
-    pub fn operand_or_end(&mut self, alloc: Global, token: &'a Token) -> Result<Option<Mode>, AllocError>
+    pub fn operand_or_end(
+        &mut self,
+        alloc: Global,
+        token: &'a Token,
+    ) -> Result<Option<Mode>, AllocError>
         ensures { IfOk result (Acts (λ fs o. m.operand_or_end fs o token.now) self.old self.new) }
     {
         match token {

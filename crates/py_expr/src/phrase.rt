@@ -1,14 +1,17 @@
 ghost use Rattle.std.specs.Prelude.{◌≡◌, ◌≤◌, if◌then◌else◌, length, Some, None, IfOk};
 ghost use Rattle.py_expr.specs.Grammar.{E, L};
+ghost use Rattle.py_expr.specs.Laws.{OnePhrase};
 ghost use Rattle.py_expr.specs.Machine as m;
 ghost use Rattle.py_expr.specs.Views.{mode_of, level_of, frames_of, steps_of};
 ghost use Rattle.py_expr.specs.declared.phrase.Stop.{Stop};
-ghost use Rattle.py_expr.specs.Phrases.{as_read, Stops, AtFront, BuildsExpression, BuildsTarget};
+ghost use Rattle.py_expr.specs.Phrases.{as_read, Stops, AtFront, BuildsExpression};
 
+use crate::build::build;
 use crate::machine::{Frame, Mode, Step, Whole};
+use crate::nesting::nesting_of;
 use crate::reader::Reader;
 use py_lexer::token::Token;
-use py_tree::expression::{Expr, Target};
+use py_tree::expression::Expr;
 use std::alloc::{AllocError, Global};
 
 /// A phrase at the front of tokens, and what follows it.
@@ -18,6 +21,9 @@ pub struct Phrase<'a> {
     /// The tokens behind the phrase.
     pub rest: &'a [Token],
 }
+
+/// The deepest nesting that is built.
+const MAX_NESTING: usize = 200;
 
 /// A tree, where it is nested at most 200 deep.
 #[derive(Drop)]
@@ -168,18 +174,22 @@ pub fn expression_at<'a>(
     phrase_at(alloc, tokens, Whole::Lone)
 }
 
+/// At most one phrase stands at a front and ends where such a phrase may end.
+pub fn one_phrase()
+    ensures { OnePhrase }
+{}
+
 impl<'a> Phrase<'a> {
     /// The expression that the phrase spells.
     pub fn expression(&self, alloc: Global) -> Result<Built<Expr>, AllocError>
         ensures expression { IfOk result (λ built. BuildsExpression self.now built) }
     {
-        Err(AllocError)
-    }
-
-    /// The target that the phrase is, if it is one (Python reference: assignment statements).
-    pub fn target(&self, alloc: Global) -> Result<Option<Built<Target>>, AllocError>
-        ensures target { IfOk result (λ built. BuildsTarget self.now built) }
-    {
-        Err(AllocError)
+        if nesting_of(alloc, &self.steps)? > MAX_NESTING {
+            return Ok(Built::TooDeep);
+        }
+        match build(alloc, &self.steps)? {
+            Some(tree) => Ok(Built::Shallow(tree)),
+            None => Ok(Built::TooDeep),
+        }
     }
 }
