@@ -15,6 +15,7 @@ use Rattle.py_expr.specs.Lines.{Base}
 use Rattle.py_expr.specs.LineEnds.{Anything}
 use Rattle.py_expr.specs.Depth.{maybe_nesting}
 use Rattle.py_expr.specs.Readings.{Same, IsBuilt, IsFound, FoundAt, BaseBehind}
+use Rattle.py_expr.proofs.OneForm.{behind}
 
 none_built : IsBuilt {T = Option Expr} maybe_of maybe_nesting None (Shallow None)
 none_built = (omega arith, refl)
@@ -38,11 +39,12 @@ empty_found s inner m h k =
   only_none q _ l.empty_base = record { thing = refl; rest = refl }
 
 pub no_empty_base : (s inner : Tokens) → s ≡ t.left_paren ∷ inner → ((n : Text) (m : Tokens) → inner ≡ token.Name n ∷ m → ⊥) → ((m : Tokens) → inner ≡ t.right_paren ∷ t.colon ∷ m → ⊥) → (q : Tokens) (z : Option Expression) → Base s q z → Anything q → ⊥
-no_empty_base s inner h name closed q z d i = at q z (subst (λ y. Base y q z) h d) where
-  at : (q : Tokens) (z : Option Expression) → Base (t.left_paren ∷ inner) q z → ⊥
-  at q _ l.empty_base = closed q refl
-  at q _ (l.named_base {b = b}) = name b (t.right_paren ∷ t.colon ∷ q) refl
-  at q _ (l.dotted_base {m = m} {b = b}) = name m (t.dot ∷ token.Name b ∷ t.right_paren ∷ t.colon ∷ q) refl
+no_empty_base s inner h name closed q z d i = at s q z d h where
+  at : (y q : Tokens) (z : Option Expression) → Base y q z → y ≡ t.left_paren ∷ inner → ⊥
+  at _ q _ l.no_base e = cc
+  at _ q _ l.empty_base e = closed q (ap behind (sym e))
+  at _ q _ (l.named_base {b = b}) e = name b (t.right_paren ∷ t.colon ∷ q) (ap behind (sym e))
+  at _ q _ (l.dotted_base {m = m} {b = b}) e = name m (t.dot ∷ token.Name b ∷ t.right_paren ∷ t.colon ∷ q) (ap behind (sym e))
 
 pub behind_name : (s inner m : Tokens) (n : Text) (o : Option (reading.Found (Option Expr))) → s ≡ t.left_paren ∷ inner → inner ≡ token.Name n ∷ m → FoundAt (BaseBehind n) Anything maybe_of maybe_nesting m o → FoundAt Base Anything maybe_of maybe_nesting s o
 behind_name s inner m n o h k f = subst (λ y. FoundAt Base Anything maybe_of maybe_nesting y o) (sym (h ∙ ap (λ y. t.left_paren ∷ y) k)) (same o f) where
@@ -70,11 +72,17 @@ dotted_found n b s more rest m e h k c made =
   only_dotted q _ l.dotted_base = record { thing = refl; rest = refl }
 
 pub no_member : (n : Text) (s more : Tokens) → s ≡ t.dot ∷ more → ((b : Text) (m : Tokens) → more ≡ token.Name b ∷ m → ⊥) → (q : Tokens) (z : Option Expression) → BaseBehind n s q z → Anything q → ⊥
-no_member n s more h name q z d i = at q z (subst (λ y. BaseBehind n y q z) h d) where
-  at : (q : Tokens) (z : Option Expression) → BaseBehind n (t.dot ∷ more) q z → ⊥
-  at q _ (l.dotted_base {b = b}) = name b (t.right_paren ∷ t.colon ∷ q) refl
+no_member n s more h name q z d i = at (t.left_paren ∷ token.Name n ∷ s) q z d (ap (λ y. t.left_paren ∷ token.Name n ∷ y) h) where
+  at : (y q : Tokens) (z : Option Expression) → Base y q z → y ≡ t.left_paren ∷ token.Name n ∷ t.dot ∷ more → ⊥
+  at _ q _ l.no_base e = cc
+  at _ q _ l.empty_base e = cc
+  at _ q _ l.named_base e = cc
+  at _ q _ (l.dotted_base {m = m} {b = b}) e = name b (t.right_paren ∷ t.colon ∷ q) (ap (λ y. behind (behind (behind y))) (sym e))
 
 pub no_dotted_base : (n b : Text) (s more rest : Tokens) → s ≡ t.dot ∷ more → more ≡ token.Name b ∷ rest → ((m : Tokens) → rest ≡ t.right_paren ∷ t.colon ∷ m → ⊥) → (q : Tokens) (z : Option Expression) → BaseBehind n s q z → Anything q → ⊥
-no_dotted_base n b s more rest h k closed q z d i = at q z (subst (λ y. BaseBehind n y q z) (h ∙ ap (λ y. t.dot ∷ y) k) d) where
-  at : (q : Tokens) (z : Option Expression) → BaseBehind n (t.dot ∷ token.Name b ∷ rest) q z → ⊥
-  at q _ l.dotted_base = closed q refl
+no_dotted_base n b s more rest h k closed q z d i = at (t.left_paren ∷ token.Name n ∷ s) q z d (ap (λ y. t.left_paren ∷ token.Name n ∷ y) (h ∙ ap (λ y. t.dot ∷ y) k)) where
+  at : (y q : Tokens) (z : Option Expression) → Base y q z → y ≡ t.left_paren ∷ token.Name n ∷ t.dot ∷ token.Name b ∷ rest → ⊥
+  at _ q _ l.no_base e = cc
+  at _ q _ l.empty_base e = cc
+  at _ q _ l.named_base e = cc
+  at _ q _ (l.dotted_base {m = m} {b = c}) e = closed q (ap (λ y. behind (behind (behind (behind y)))) (sym e))
