@@ -9,6 +9,7 @@ mod for_names;
 pub mod form;
 mod found;
 mod front;
+pub mod line;
 mod machine;
 mod nesting;
 mod operand;
