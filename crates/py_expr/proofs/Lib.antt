@@ -1,4 +1,5 @@
 pub mod Complete
+pub mod Wholes
 pub mod Sound
 pub mod Builds
 pub mod Nested

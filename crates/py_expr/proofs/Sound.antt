@@ -16,10 +16,11 @@ use Rattle.py_lexer.specs.declared.token.Mark.TheVariants as mark
 use Rattle.py_expr.specs.Tokens as t
 use Rattle.py_expr.specs.Grammar as g
 use Rattle.py_expr.specs.Grammar.{Tokens, Level, P, U, M, S, C, N, A, O, E, L, Spells, Joined, Items, Entries, Arguments, KeywordsAt, distinct}
-use Rattle.py_expr.specs.Ends.{IsEnd, EndsList, EndsLone}
+use Rattle.py_expr.specs.Ends.{IsEnd}
 use Rattle.py_expr.specs.Machine as m
 use Rattle.py_expr.specs.Machine.{Frame, Frames, Step, Steps, Mode, State, Done, Read, state, done, wants, wants_behind, makes, made, close, after, negation, operand, operand_or_end, no_repeats, called, call, paren_after_comma, bracket_after_comma, brace_after_comma, left_of, stands_at, push, tight, loose, compared_by, other, comma, listed, paren, bracket, brace, colon, in_call, named, equal, joined, follow, behind, dotted, not_in, constant_of, is_constant, is, step, ended, ended_at, ended_after_comma, finish, read_to, with_rest, ends, stop, go_on, run, bottom, read}
 use Rattle.py_expr.specs.Emitted.{count, count_pairs, count_keywords, emit, emit_text, emit_items, emit_entries, emit_arguments, emit_keywords}
+use Rattle.py_expr.proofs.Wholes.{IsWhole, nothing_ends, is_end}
 use Rattle.py_expr.proofs.Complete.{rank, names_of, distinct_is, names_length}
 
 -- the tokens from the first on, and the level of the whole
@@ -741,40 +742,6 @@ finish_ok s0 r _ fs o p = tt
 abbrev Ended : Start → Option Read → Type 0
 Ended s0 None = Unit {0}
 Ended s0 (Some y) = Spelled s0.level s0.tokens y.rest y.steps × IsEnd s0.level y.rest
-
-abbrev pub IsWhole : Level → Type 0
-IsWhole L = Unit {0}
-IsWhole E = Unit {0}
-IsWhole _ = ⊥
-
-nothing_ends : (k : Level) → IsWhole k → IsEnd k []
-nothing_ends L h = tt
-nothing_ends E h = tt
-nothing_ends _ h = absurd h
-
-list_ends : (c : Token) (r : Tokens) → m.ends_list c ≡ true → EndsList (c ∷ r)
-list_ends (token.Mark mark.Equal) r h = tt
-list_ends (token.Mark mark.Colon) r h = tt
-list_ends (token.Mark mark.PlusEqual) r h = tt
-list_ends (token.Mark mark.MinusEqual) r h = tt
-list_ends (token.Mark mark.StarEqual) r h = tt
-list_ends (token.Mark mark.DoubleSlashEqual) r h = tt
-list_ends (token.Mark mark.PercentEqual) r h = tt
-list_ends _ r h = absurd cc
-
-lone_ends : (c : Token) (r : Tokens) → m.ends_lone c ≡ true → EndsLone (c ∷ r)
-lone_ends (token.Mark mark.Colon) r h = tt
-lone_ends (token.Mark mark.Comma) r h = tt
-lone_ends (token.Mark mark.RightParen) r h = tt
-lone_ends (token.Mark mark.Equal) r h = tt
-lone_ends (token.Mark mark.RightArrow) r h = tt
-lone_ends (token.Word word.As) r h = tt
-lone_ends _ r h = absurd cc
-
-is_end : (k : Level) → IsWhole k → (c : Token) (r : Tokens) → ends k c ≡ true → IsEnd k (c ∷ r)
-is_end L w c r h = list_ends c r h
-is_end E w c r h = lone_ends c r h
-is_end _ w c r h = absurd w
 
 with_rest_ok : (s0 : Start) (r : Tokens) (out : Option Steps) → IsEnd s0.level r → EndedAt s0 r out → Ended s0 (with_rest r out)
 with_rest_ok s0 r None h p = tt
