@@ -1,5 +1,5 @@
 -- The targets of a `for`, as they are read.
-use Rattle.std.proofs.Common.{◌≡◌, ◌≤◌, ◌<◌, Bool, true, false, List, [], ◌∷◌, length, Option, Some, None, refl, sym, ap, subst, ◌∙◌, arith}
+use Rattle.std.proofs.Common.{◌≡◌, ◌≤◌, Bool, true, false, List, [], ◌∷◌, length, Some, None, refl, sym, ap, subst, ◌∙◌, arith}
 use Rattle.py_tree.specs.Syntax as syntax
 use Rattle.py_tree.specs.Syntax.{Text, Target}
 use Rattle.py_tree.specs.Joined.{target_of}
@@ -14,7 +14,7 @@ use Rattle.py_expr.specs.Lines.{Many, Names}
 use Rattle.py_expr.specs.Depth.{target_nesting}
 use Rattle.py_expr.specs.LineEnds.{Anything}
 use Rattle.py_expr.specs.Runs.{NameList, name_list, names_at, target_from}
-use Rattle.py_expr.specs.Readings.{Same, IsFound, BeforeIn, InParentheses}
+use Rattle.py_expr.specs.Readings.{IsFound, BeforeIn, InParentheses}
 use Rattle.py_expr.proofs.NameLists.{Shape, nothing, single, single_and_comma, several, shape, many_is_read, last_name, same_names, same_comma, same_rest}
 use Rattle.py_expr.proofs.OneForm.{behind}
 
@@ -60,11 +60,11 @@ parentheses_found s m n r names comma read few closed ends =
       thing = syntax.ToNames names;
       stands = parentheses_stand names comma s r (names_at false s) (shape false s) (sym read ∙ ap (name_list names comma) here) few;
       only = λ q z d h.
-        let x = reads_parentheses s q z d in
-        let both : name_list x.names x.last (t.right_paren ∷ t.in_ ∷ q) ≡ name_list names comma (t.right_paren ∷ t.in_ ∷ r) = sym x.is_read ∙ sym read ∙ ap (name_list names comma) here in
-        let named : x.names ≡ names = same_names both in
-        let rests : q ≡ r = ap (λ y. behind (behind y)) (same_rest both) in
-        record { thing = sym (x.is_target ∙ ap syntax.ToNames named); rest = sym rests };
+          let x = reads_parentheses s q z d in
+          let both : name_list x.names x.last (t.right_paren ∷ t.in_ ∷ q) ≡ name_list names comma (t.right_paren ∷ t.in_ ∷ r) = sym x.is_read ∙ sym read ∙ ap (name_list names comma) here in
+          let named : x.names ≡ names = same_names both in
+          let rests : q ≡ r = ap (λ y. behind (behind y)) (same_rest both) in
+          record { thing = sym (x.is_target ∙ ap syntax.ToNames named); rest = sym rests };
       is_built = (omega arith, refl);
     }
 
@@ -132,14 +132,14 @@ bare_found s m r names comma made' bare read is ends =
       thing = target_of made';
       stands = bare_stands names comma s r (target_of made') (names_at false s) (shape false s) (sym read ∙ ap (name_list names comma) ends) is;
       only = λ q z d h.
-        let x = reads_bare s q z bare d in
-        let both : name_list x.names x.last (t.in_ ∷ q) ≡ name_list names comma (t.in_ ∷ r) = sym x.is_read ∙ sym read ∙ ap (name_list names comma) ends in
-        let named : x.names ≡ names = same_names both in
-        let ended : x.last ≡ comma = same_comma both in
-        let rests : q ≡ r = ap behind (same_rest both) in
-        let found : Some z ≡ Some (target_of made') = sym x.is_target ∙ ap (λ y. target_from y x.names) ended ∙ ap (target_from comma) named ∙ is in
-        let targets : z ≡ target_of made' = some_one found in
-        record { thing = sym targets; rest = sym rests };
+          let x = reads_bare s q z bare d in
+          let both : name_list x.names x.last (t.in_ ∷ q) ≡ name_list names comma (t.in_ ∷ r) = sym x.is_read ∙ sym read ∙ ap (name_list names comma) ends in
+          let named : x.names ≡ names = same_names both in
+          let ended : x.last ≡ comma = same_comma both in
+          let rests : q ≡ r = ap behind (same_rest both) in
+          let found : Some z ≡ Some (target_of made') = sym x.is_target ∙ ap (λ y. target_from y x.names) ended ∙ ap (target_from comma) named ∙ is in
+          let targets : z ≡ target_of made' = some_one found in
+          record { thing = sym targets; rest = sym rests };
       is_built = (names_deep comma names (target_of made') is, refl);
     }
 

@@ -1,6 +1,5 @@
 -- What is found of phrases, and of what has them in it.
-use Rattle.std.proofs.Common.{◌≡◌, ◌≤◌, ◌<◌, ℕ, max, List, [], ◌∷◌, Option, Some, None, refl, sym, ap, subst, ◌∙◌, arith}
-use Rattle.py_tree.specs.Syntax as syntax
+use Rattle.std.proofs.Common.{◌≡◌, ℕ, ◌∷◌, Option, Some, None, refl, sym, ap, subst, ◌∙◌, arith}
 use Rattle.py_tree.specs.Syntax.{Text, Expression, Param}
 use Rattle.py_tree.specs.Nesting.{nesting}
 use Rattle.py_tree.specs.Joined.{expression_of, maybe_of, param_of}
@@ -12,7 +11,7 @@ use Rattle.py_expr.specs.declared.phrase.Built.{Built}
 use Rattle.py_expr.specs.declared.phrase.Built.TheVariants.{Shallow, TooDeep}
 use Rattle.py_expr.specs.declared.found.Found as reading
 use Rattle.py_expr.specs.Tokens as t
-use Rattle.py_expr.specs.Grammar.{Tokens, Level, E, L, Spells}
+use Rattle.py_expr.specs.Grammar.{Tokens, Level, E, Spells}
 use Rattle.py_expr.specs.Ends.{IsEnd}
 use Rattle.py_expr.specs.Phrases.{Is, AtFront, IsExpression, BuildsExpression}
 use Rattle.py_expr.specs.Lines as l
@@ -20,7 +19,7 @@ use Rattle.py_expr.specs.Lines.{Annotation, Default, Parameter, Result}
 use Rattle.py_expr.specs.LineEnds.{Anything, EndsAnnotation, EndsParameter}
 use Rattle.py_expr.specs.Depth.{maybe_nesting, param_nesting}
 use Rattle.py_expr.specs.Readings.{Same, IsBuilt, FoundAt, IsFound, BeforeColon, built_on, both_built}
-use Rattle.py_expr.proofs.OneForm.{behind, annotation_ends, parameter_ends, default_begins}
+use Rattle.py_expr.proofs.OneForm.{annotation_ends, parameter_ends, default_begins}
 use Rattle.py_expr.proofs.Builds.{one_front}
 
 expression_built : (e : Expression) (b : Built Expr) → IsExpression e b → IsBuilt expression_of nesting e b
@@ -72,9 +71,9 @@ annotated_found s m r b h f =
       only = λ q z d i. only_annotated q z d i;
       is_built = some_built f.thing b f.is_built;
     }) where
-  only_annotated : (q : Tokens) (z : Option Expression) → Annotation (t.colon ∷ m) q z → EndsAnnotation q → Same (Some f.thing) z r q
-  only_annotated q _ l.unannotated i = absurd i
-  only_annotated q _ (l.annotated {e = e} d) i = let x = f.only q e d (annotation_ends q i) in record { thing = ap Some x.thing; rest = x.rest }
+      only_annotated : (q : Tokens) (z : Option Expression) → Annotation (t.colon ∷ m) q z → EndsAnnotation q → Same (Some f.thing) z r q
+      only_annotated q _ l.unannotated i = absurd i
+      only_annotated q _ (l.annotated {e = e} d) i = let x = f.only q e d (annotation_ends q i) in record { thing = ap Some x.thing; rest = x.rest }
 
 pub not_annotated : (s m : Tokens) → s ≡ t.colon ∷ m → ((q : Tokens) (z : Expression) → Spells E m q z → IsEnd E q → ⊥) → (q : Tokens) (z : Option Expression) → Annotation s q z → EndsAnnotation q → ⊥
 not_annotated s m h none q z d i = only_annotated q z (subst (λ y. Annotation y q z) h d) i where
@@ -96,9 +95,9 @@ default_found s m r b h f =
       only = λ q z d i. only_default q z d i;
       is_built = some_built f.thing b f.is_built;
     }) where
-  only_default : (q : Tokens) (z : Option Expression) → Default (t.equal ∷ m) q z → EndsParameter q → Same (Some f.thing) z r q
-  only_default q _ l.no_default i = absurd i
-  only_default q _ (l.a_default {e = e} d) i = let x = f.only q e d (parameter_ends q i) in record { thing = ap Some x.thing; rest = x.rest }
+      only_default : (q : Tokens) (z : Option Expression) → Default (t.equal ∷ m) q z → EndsParameter q → Same (Some f.thing) z r q
+      only_default q _ l.no_default i = absurd i
+      only_default q _ (l.a_default {e = e} d) i = let x = f.only q e d (parameter_ends q i) in record { thing = ap Some x.thing; rest = x.rest }
 
 pub not_default : (s m : Tokens) → s ≡ t.equal ∷ m → ((q : Tokens) (z : Expression) → Spells E m q z → IsEnd E q → ⊥) → (q : Tokens) (z : Option Expression) → Default s q z → EndsParameter q → ⊥
 not_default s m h none q z d i = only_default q z (subst (λ y. Default y q z) h d) i where
@@ -120,14 +119,14 @@ result_found s m r b h f =
       only = λ q z d i. only_result q z d;
       is_built = some_built f.thing b f.is_built;
     }) where
-  only_result : (q : Tokens) (z : Option Expression) → Result (t.arrow ∷ m) q z → Same (Some f.thing) z r q
-  only_result q _ (l.a_result {e = e} d) = let x = f.only q e d tt in record { thing = ap Some x.thing; rest = x.rest }
+      only_result : (q : Tokens) (z : Option Expression) → Result (t.arrow ∷ m) q z → Same (Some f.thing) z r q
+      only_result q _ (l.a_result {e = e} d) = let x = f.only q e d tt in record { thing = ap Some x.thing; rest = x.rest }
 
 pub no_result_found : (s m : Tokens) → s ≡ t.colon ∷ m → IsFound Result Anything maybe_of maybe_nesting s (Shallow None) m
 no_result_found s m h =
     subst (λ y. IsFound Result Anything maybe_of maybe_nesting y (Shallow None) m) (sym h) (record { thing = None; stands = l.no_result; only = λ q z d i. only_none q z d; is_built = none_built }) where
-  only_none : (q : Tokens) (z : Option Expression) → Result (t.colon ∷ m) q z → Same None z m q
-  only_none q _ l.no_result = record { thing = refl; rest = refl }
+      only_none : (q : Tokens) (z : Option Expression) → Result (t.colon ∷ m) q z → Same None z m q
+      only_none q _ l.no_result = record { thing = refl; rest = refl }
 
 pub not_result : (s m : Tokens) → s ≡ t.arrow ∷ m → ((q : Tokens) (z : Expression) → BeforeColon m q z → Anything q → ⊥) → (q : Tokens) (z : Option Expression) → Result s q z → Anything q → ⊥
 not_result s m h none q z d i = only_result q z (subst (λ y. Result y q z) h d) where

@@ -1,5 +1,5 @@
 -- At most one form stands for the tokens of a line, if at most one phrase stands at a front.
-use Rattle.std.proofs.Common.{◌≡◌, Bool, true, false, List, [], ◌∷◌, Option, Some, None, refl, sym, ap, subst, ◌∙◌}
+use Rattle.std.proofs.Common.{◌≡◌, List, [], ◌∷◌, Option, Some, None, refl, sym, ap, subst}
 use Rattle.py_tree.specs.Syntax as syntax
 use Rattle.py_tree.specs.Syntax.{Text, Expression, Param, Target, Kind}
 use Rattle.py_tree.specs.declared.statement.Import.{Import}

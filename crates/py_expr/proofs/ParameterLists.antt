@@ -1,9 +1,8 @@
 -- Lists of parameters, as they are read one by one.
-use Rattle.std.proofs.Common.{◌≡◌, ◌≤◌, ◌<◌, ◌+◌, ℕ, max, List, [], ◌∷◌, ◌++◌, map, length, Option, Some, None, refl, sym, ap, subst, ◌∙◌, append_assoc, arith}
+use Rattle.std.proofs.Common.{◌≡◌, ◌<◌, max, List, [], ◌∷◌, ◌++◌, length, Option, Some, None, refl, sym, ap, subst, ◌∙◌, append_assoc, arith}
 use Rattle.py_tree.specs.Syntax.{Param}
 use Rattle.py_tree.specs.Joined.{param_of}
 use Rattle.py_tree.specs.declared.expression.Param as tree
-use Rattle.py_lexer.specs.declared.token.Token.TheVariants as token
 use Rattle.py_expr.specs.declared.phrase.Built.{Built}
 use Rattle.py_expr.specs.declared.phrase.Built.TheVariants.{Shallow, TooDeep}
 use Rattle.py_expr.specs.Tokens as t
@@ -81,9 +80,9 @@ ended_found s rest m params f h =
       thing = f.taken;
       stands = subst (λ z. BeforeParen s m z) (append_none f.taken) (f.goes_on m [] (subst (λ z. BeforeParen z m []) (sym h) l.no_parameter));
       only = λ q zs d i.
-        let b = f.comes_back q zs d in
-        let x = nothing_left m q b.others (subst (λ z. BeforeParen z q b.others) h b.stand) in
-        record { thing = sym (b.all ∙ ap (λ z. f.taken ++ z) (sym x.thing) ∙ append_none f.taken); rest = x.rest };
+          let b = f.comes_back q zs d in
+          let x = nothing_left m q b.others (subst (λ z. BeforeParen z q b.others) h b.stand) in
+          record { thing = sym (b.all ∙ ap (λ z. f.taken ++ z) (sym x.thing) ∙ append_none f.taken); rest = x.rest };
       is_built = f.is_built;
     }
 
@@ -116,12 +115,12 @@ module _ (rest r : Tokens) (param : Built tree.Param) (f : IsFound Parameter End
       record {
         taken = so_far.taken ++ f.thing ∷ [];
         goes_on = λ q zs d.
-          let here : Parameters rest (t.right_paren ∷ q) (f.thing ∷ zs) = l.next_parameter (subst (λ z. Parameter rest z f.thing) h f.stands) d in
-          subst (λ z. BeforeParen s q z) (sym (append_assoc so_far.taken (f.thing ∷ []) zs)) (so_far.goes_on q (f.thing ∷ zs) here);
+            let here : Parameters rest (t.right_paren ∷ q) (f.thing ∷ zs) = l.next_parameter (subst (λ z. Parameter rest z f.thing) h f.stands) d in
+            subst (λ z. BeforeParen s q z) (sym (append_assoc so_far.taken (f.thing ∷ []) zs)) (so_far.goes_on q (f.thing ∷ zs) here);
         comes_back = λ q zs d.
-          let b = so_far.comes_back q zs d in
-          let x = comma_back m q b.others h b.stand in
-          record { others = x.others; all = b.all ∙ ap (λ z. so_far.taken ++ z) x.all ∙ sym (append_assoc so_far.taken (f.thing ∷ []) x.others); stand = x.stand };
+            let b = so_far.comes_back q zs d in
+            let x = comma_back m q b.others h b.stand in
+            record { others = x.others; all = b.all ∙ ap (λ z. so_far.taken ++ z) x.all ∙ sym (append_assoc so_far.taken (f.thing ∷ []) x.others); stand = x.stand };
         is_built = makes so_far.taken f.thing so_far.is_built f.is_built;
       }
 
@@ -144,9 +143,9 @@ module _ (rest r : Tokens) (param : Built tree.Param) (f : IsFound Parameter End
         thing = so_far.taken ++ f.thing ∷ [];
         stands = so_far.goes_on m (f.thing ∷ []) (l.last_parameter (subst (λ z. Parameter rest z f.thing) h f.stands));
         only = λ q zs d i.
-          let b = so_far.comes_back q zs d in
-          let x = last_back m q b.others h b.stand in
-          record { thing = sym (b.all ∙ ap (λ z. so_far.taken ++ z) (sym x.thing)); rest = x.rest };
+            let b = so_far.comes_back q zs d in
+            let x = last_back m q b.others h b.stand in
+            record { thing = sym (b.all ∙ ap (λ z. so_far.taken ++ z) (sym x.thing)); rest = x.rest };
         is_built = makes so_far.taken f.thing so_far.is_built f.is_built;
       }
 

@@ -1,5 +1,5 @@
 -- What stands at the front of tokens takes one of them or more.
-use Rattle.std.proofs.Common.{◌<◌, ◌≤◌, ◌∷◌, length, arith}
+use Rattle.std.proofs.Common.{◌<◌, ◌≤◌, length, arith}
 use Rattle.py_tree.specs.Syntax.{Text, Expression, Expressions, Pairs, Keywords, Param}
 use Rattle.std.proofs.Common.{Option}
 use Rattle.py_expr.specs.Grammar as g

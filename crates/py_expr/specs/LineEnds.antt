@@ -1,7 +1,6 @@
 -- No definition of the language: what stands behind the parts of a line where they end.
 use Rattle.std.specs.Prelude.{[], ◌∷◌}
 use Rattle.py_lexer.specs.declared.token.Token.TheVariants as token
-use Rattle.py_lexer.specs.declared.token.Keyword.TheVariants as word
 use Rattle.py_lexer.specs.declared.token.Mark.TheVariants as mark
 use Rattle.py_expr.specs.Grammar.{Tokens}
 

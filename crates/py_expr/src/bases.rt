@@ -7,7 +7,7 @@ ghost use Rattle.py_expr.specs.LineEnds.{Anything};
 ghost use Rattle.py_expr.specs.Depth.{maybe_nesting};
 ghost use Rattle.py_expr.specs.Readings.{BaseBehind, FoundAt};
 
-use crate::found::{absent, Found, Reading};
+use crate::found::{Found, Reading, absent};
 use crate::front::{after_closed_head, after_mark, after_name};
 use crate::phrase::Built;
 use py_lexer::token::{Mark, Token};
@@ -36,11 +36,7 @@ pub(crate) fn base<'a>(alloc: Global, tokens: &'a [Token]) -> Reading<'a, Option
 }
 
 /// `["." NAME] ")" ":"`, behind `(` and a name.
-fn named_base<'a>(
-    alloc: Global,
-    name: &Text,
-    tokens: &'a [Token],
-) -> Reading<'a, Option<Expr>>
+fn named_base<'a>(alloc: Global, name: &Text, tokens: &'a [Token]) -> Reading<'a, Option<Expr>>
     ensures { IfOk result (λ found. FoundAt (BaseBehind name.now) Anything maybe_of maybe_nesting tokens.now found) }
 {
     let Some(more) = after_mark(tokens, Mark::Dot) else {

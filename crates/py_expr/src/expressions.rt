@@ -6,9 +6,9 @@ ghost use Rattle.py_expr.specs.Ends.{IsEnd};
 ghost use Rattle.py_expr.specs.LineEnds.{Anything};
 ghost use Rattle.py_expr.specs.Readings.{FoundAt, BeforeColon, ListBeforeColon};
 
+use crate::found::{Found, Reading};
 use crate::front::after_mark;
 use crate::phrase::{expression_at, list_at};
-use crate::found::{Found, Reading};
 use py_lexer::token::{Mark, Token};
 use py_tree::expression::Expr;
 use std::alloc::Global;

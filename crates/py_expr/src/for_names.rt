@@ -8,9 +8,9 @@ ghost use Rattle.py_expr.specs.LineEnds.{Anything};
 ghost use Rattle.py_expr.specs.Runs as spec;
 ghost use Rattle.py_expr.specs.Readings.{FoundAt, BeforeIn, InParentheses};
 
+use crate::found::{Found, Reading};
 use crate::front::{after_mark, after_name, after_word};
 use crate::phrase::Built;
-use crate::found::{Found, Reading};
 use py_lexer::token::{Keyword, Mark, Token};
 use py_tree::expression::{Target, Texts};
 use std::alloc::{AllocError, Global};

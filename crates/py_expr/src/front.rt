@@ -51,7 +51,11 @@ pub(crate) fn after_closed_head(tokens: &[Token]) -> Option<&[Token]>
     ensures { MatchOption result ((r : Tokens) → tokens.now ≡ t.right_paren ∷ t.colon ∷ r → ⊥) (λ rest. tokens.now ≡ t.right_paren ∷ t.colon ∷ rest.now) }
 {
     match tokens {
-        [Token::Mark(Mark::RightParen), Token::Mark(Mark::Colon), rest @ ..] => Some(rest),
+        [
+            Token::Mark(Mark::RightParen),
+            Token::Mark(Mark::Colon),
+            rest @ ..,
+        ] => Some(rest),
         _ => None,
     }
 }

@@ -9,9 +9,9 @@ ghost use Rattle.py_expr.specs.Readings.{BeforeParen, FoundAt, IsBuilt, IsClosed
 ghost use Rattle.py_expr.specs.declared.phrase.Built.TheVariants as Built;
 
 use crate::expressions::{expression, expression_before_colon};
+use crate::found::{Found, Reading, absent, both, present};
 use crate::front::{after_mark, after_name};
 use crate::phrase::Built;
-use crate::found::{absent, both, present, Found, Reading};
 use py_lexer::token::{Mark, Token};
 use py_tree::expression::{Expr, Param, Params};
 use py_tree::text::Text;

@@ -1,5 +1,5 @@
 use Rattle.py_expr.proofs.FoundAt.{under}
-use Rattle.py_expr.proofs.BaseFacts.{colon_found, no_base_there, empty_found, no_empty_base, behind_name}
+use Rattle.py_expr.proofs.BaseFacts.{colon_found, empty_found}
 use Rattle.py_expr.proofs.bases.base.Goals as goal
 
 pub returns-in-Some-after_mark : goal.returns-in-Some-after_mark
@@ -8,4 +8,4 @@ returns-in-Some-after_mark c = under c.absent.ensures.built c.absent.ensures.res
 pub returns-in-Some-after_closed_head : goal.returns-in-Some-after_closed_head
 returns-in-Some-after_closed_head c =
     under c.absent-in-Some-after_closed_head.ensures.built c.absent-in-Some-after_closed_head.ensures.rest
-      (empty_found c.args.tokens.now c.in-Some.inner.now c.in-Some-after_closed_head.rest.now c.in-Some.ensures c.in-Some-after_closed_head.ensures)
+    (empty_found c.args.tokens.now c.in-Some.inner.now c.in-Some-after_closed_head.rest.now c.in-Some.ensures c.in-Some-after_closed_head.ensures)

@@ -1,5 +1,4 @@
-use Rattle.std.proofs.Common.{◌≡◌, ◌∷◌, Some, None, ap, sym, ◌∙◌}
-use Rattle.py_expr.specs.Tokens as t
+use Rattle.std.proofs.Common.{◌≡◌, Some, None, sym}
 use Rattle.py_expr.proofs.ForNames.{bare_found, no_bare}
 use Rattle.py_expr.proofs.for_names.bare.Goals as goal
 

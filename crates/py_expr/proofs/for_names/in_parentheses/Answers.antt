@@ -1,4 +1,4 @@
-use Rattle.std.proofs.Common.{◌≡◌, ◌∷◌, arith, ap, sym, ◌∙◌}
+use Rattle.std.proofs.Common.{◌∷◌, arith, ap, sym, ◌∙◌}
 use Rattle.py_expr.specs.Tokens as t
 use Rattle.py_expr.proofs.OneForm.{behind}
 use Rattle.py_expr.proofs.ForNames.{parentheses_found, no_parentheses}
@@ -15,7 +15,7 @@ returns-in_default c s read =
 pub returns-in-Some-after_word : goal.returns-in-Some-after_word
 returns-in-Some-after_word c s read =
     parentheses_found s c.args.list.rest.now c.in-Some.rest.now c.in-Some-after_word.rest.now c.args.list.names c.args.list.comma read (omega (arith, c.if-len-lt2.false, c.len.ensures))
-      c.in-Some.ensures c.in-Some-after_word.ensures
+    c.in-Some.ensures c.in-Some-after_word.ensures
 
 pub returns : goal.returns
 returns c s read =

@@ -10,7 +10,7 @@ returns-in-Some c = ended_found c.args.tokens.now c.loop-behind.rest.now c.in-So
 pub returns-in_default-after_mark : goal.returns-in_default-after_mark
 returns-in_default-after_mark c =
     closed_found c.loop-behind.rest.now c.in-Some-2.found.rest.now c.in-Some-2.found.built (some_found c.in-Some-2.is c.in_ok-found.ensures) c.args.tokens.now c.loop-behind.params c.in_ok-params.params c.loop-behind.invariant
-      c.in_default-after_mark.ensures c.in_ok-params.ensures c.closed.result c.closed.ensures
+    c.in_default-after_mark.ensures c.in_ok-params.ensures c.closed.result c.closed.ensures
 
 pub loop-behind-smaller : goal.loop-behind-smaller
 loop-behind-smaller c =
@@ -21,4 +21,4 @@ loop-behind-smaller c =
 pub loop-behind-preserved : goal.loop-behind-preserved
 loop-behind-preserved c =
     with_comma c.loop-behind.rest.now c.in-Some-2.found.rest.now c.in-Some-2.found.built (some_found c.in-Some-2.is c.in_ok-found.ensures) c.args.tokens.now c.in-Some-after_mark.more.now c.loop-behind.params c.in_ok-params.params c.loop-behind.invariant
-      c.in-Some-after_mark.ensures c.in_ok-params.ensures
+    c.in-Some-after_mark.ensures c.in_ok-params.ensures

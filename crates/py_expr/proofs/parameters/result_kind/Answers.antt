@@ -7,4 +7,4 @@ returns-in-Some c = under c.absent.ensures.built c.absent.ensures.rest (no_resul
 pub returns-in-Some-2 : goal.returns-in-Some-2
 returns-in-Some-2 c =
     under c.present.ensures.built c.present.ensures.rest
-      (result_found c.args.tokens.now c.in-Some-after_mark.rest.now c.in-Some-2.found.rest.now c.in-Some-2.found.built c.in-Some-after_mark.ensures (some_found c.in-Some-2.is c.in_ok-found.ensures))
+    (result_found c.args.tokens.now c.in-Some-after_mark.rest.now c.in-Some-2.found.rest.now c.in-Some-2.found.built c.in-Some-after_mark.ensures (some_found c.in-Some-2.is c.in_ok-found.ensures))
