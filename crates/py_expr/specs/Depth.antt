@@ -10,9 +10,12 @@ abbrev pub maybe_nesting : Option Expression → ℕ
 maybe_nesting None = 0
 maybe_nesting (Some e) = nesting e
 
+abbrev pub param_nesting : Param → ℕ
+param_nesting p = max (maybe_nesting p.kind) (maybe_nesting p.default)
+
 abbrev pub params_nesting : List Param → ℕ
 params_nesting [] = 0
-params_nesting (p ∷ ps) = max (max (maybe_nesting p.kind) (maybe_nesting p.default)) (params_nesting ps)
+params_nesting (p ∷ ps) = max (param_nesting p) (params_nesting ps)
 
 abbrev pub target_nesting : Target → ℕ
 target_nesting (x.ToName n) = 0

@@ -4,6 +4,7 @@ use Rattle.std.specs.Prelude.{List, map, Option, Some, None}
 use Rattle.py_tree.specs.Syntax.{Text, Expression, Param, Target, Kind}
 use Rattle.py_tree.specs.Joined.{expression_of, maybe_of, param_of, target_of, kind_of}
 use Rattle.py_tree.specs.declared.statement.StmtKind.{StmtKind}
+use Rattle.py_tree.specs.declared.expression.Param as tree_param
 use Rattle.py_expr.specs.declared.form.Head as head
 use Rattle.py_expr.specs.declared.form.Head.TheVariants as a_head
 use Rattle.py_expr.specs.declared.form.Form as form
@@ -26,6 +27,9 @@ pub data Form : Type 0 where
 
 -- from the forms of the program
 
+abbrev pub params_of : List tree_param.Param → List Param
+params_of ps = map param_of ps
+
 abbrev pub head_of : head.Head → Head
 head_of (a_head.If e) = If (expression_of e)
 head_of (a_head.Elif e) = Elif (expression_of e)
@@ -34,7 +38,7 @@ head_of (a_head.While e) = While (expression_of e)
 head_of (a_head.For t e) = For (target_of t) (expression_of e)
 head_of a_head.Try = Try
 head_of (a_head.Except matches bind) = Except (maybe_of matches) bind
-head_of (a_head.Def name params result) = Def name (map param_of params) (maybe_of result)
+head_of (a_head.Def name params result) = Def name (params_of params) (maybe_of result)
 head_of (a_head.Class name base) = Class name (maybe_of base)
 
 abbrev pub maybe_kind_of : Option StmtKind → Option Kind

@@ -1,4 +1,21 @@
 //! The line grammar: the one form that the tokens of a logical line spell.
 #![tactic(auto)]
 
+mod bases;
+mod build;
+mod call;
+mod expressions;
+mod for_names;
 pub mod form;
+mod found;
+mod front;
+pub mod line;
+mod machine;
+mod nesting;
+mod operand;
+mod operator;
+mod parameters;
+pub mod phrase;
+mod reader;
+#[cfg(test)]
+mod tests;

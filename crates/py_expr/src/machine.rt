@@ -1,0 +1,198 @@
+ghost use Rattle.std.specs.Prelude.{◌≡◌};
+ghost use Rattle.py_expr.specs.Machine as m;
+ghost use Rattle.py_expr.specs.Views.{frame_of, level_of};
+
+use py_lexer::token::{Keyword, Mark, Token};
+use py_tree::operator::{BinaryOp, CompareOp, Const, UnaryOp};
+use py_tree::text::Text;
+
+/// What has been opened and waits for an expression. A number counts the items before a comma.
+#[derive(Clone, Copy)]
+pub enum Frame<'a> {
+    /// The whole phrase, which may be a tuple without parentheses.
+    Line(usize),
+    /// The whole phrase, which may not.
+    Lone,
+    Group(usize),
+    Index(usize),
+    Listed(usize),
+    /// A key of a dictionary is wanted.
+    Entry(usize),
+    Value(usize),
+    Call(usize),
+    /// The value of a keyword argument is wanted.
+    Key(&'a Text),
+    /// Behind a keyword argument and its comma.
+    Named(&'a Text),
+    Sign(UnaryOp),
+    Product(BinaryOp),
+    Sum(BinaryOp),
+    Compare(CompareOp),
+    Negation,
+    And,
+    Or,
+    /// Behind `if`.
+    Test,
+    /// Behind `else`.
+    Other,
+}
+
+impl<'a> Frame<'a> {
+    /// The loosest level that may stand behind it. Levels go from 1, of a sign, to 8, of an expression.
+    pub fn wants(self) -> u8
+        ensures { result ≡ m.wants_behind (frame_of self.entry) }
+    {
+        match self {
+            Frame::Sign(_) | Frame::Product(_) => 1,
+            Frame::Sum(_) => 2,
+            Frame::Compare(_) => 3,
+            Frame::Negation | Frame::And => 5,
+            Frame::Or => 6,
+            Frame::Test => 7,
+            _ => 8,
+        }
+    }
+
+    /// The level of what it makes with its last operand, and 9 where its end is a token.
+    pub fn makes(self) -> u8
+        ensures { result ≡ m.makes (frame_of self.entry) }
+    {
+        match self {
+            Frame::Sign(_) => 1,
+            Frame::Product(_) => 2,
+            Frame::Sum(_) => 3,
+            Frame::Compare(_) => 4,
+            Frame::Negation => 5,
+            Frame::And => 6,
+            Frame::Or => 7,
+            Frame::Other => 8,
+            _ => 9,
+        }
+    }
+
+    /// The level of its left operand.
+    pub fn left(self) -> u8
+        ensures { result ≡ m.left_of (frame_of self.entry) }
+    {
+        match self {
+            Frame::Product(_) => 2,
+            Frame::Sum(_) | Frame::Compare(_) => 3,
+            Frame::And => 6,
+            _ => 7,
+        }
+    }
+
+    /// The level that must be wanted where what it makes stands.
+    pub fn stands(self) -> u8
+        ensures { result ≡ m.stands_at (frame_of self.entry) }
+    {
+        match self {
+            Frame::Product(_) => 2,
+            Frame::Sum(_) => 3,
+            Frame::Compare(_) => 4,
+            Frame::And => 6,
+            Frame::Or => 7,
+            _ => 8,
+        }
+    }
+}
+
+/// A step of building trees on a stack of trees.
+#[derive(Clone, Copy)]
+pub enum Step<'a> {
+    PutName(&'a Text),
+    PutInt(u128),
+    PutText(&'a Text),
+    /// To the text on the stack.
+    JoinText(&'a Text),
+    PutConstant(Const),
+    /// The tree on the stack stands in parentheses.
+    Grouped,
+    MakeTuple(usize),
+    MakeList(usize),
+    /// Of that many keys with their values.
+    MakeDict(usize),
+    MakeUnary(UnaryOp),
+    MakeBinary(BinaryOp),
+    MakeCompare(CompareOp),
+    MakeIs(bool, Const),
+    MakeNot,
+    MakeAnd,
+    MakeOr,
+    MakeCond,
+    MakeAttr(&'a Text),
+    MakeIndex,
+    /// Of that many arguments, and of that many names with their values.
+    MakeCall(usize, usize),
+}
+
+/// What may come next.
+#[derive(Clone, Copy)]
+pub enum Mode {
+    /// An expression is wanted.
+    Want,
+    /// An expression is wanted, or the bracket closes.
+    Next,
+    /// A primary has been read.
+    Have,
+    /// Behind a dot.
+    Dotted,
+    /// Behind the `not` of `not in`.
+    NotIn,
+    /// Behind `is`.
+    Is,
+    /// Behind `is not`.
+    IsNot,
+    /// A comparison with a constant has been read.
+    Compared,
+}
+
+/// The whole that is read.
+#[derive(Clone, Copy)]
+pub enum Whole {
+    /// An expression, or a tuple without parentheses.
+    List,
+    /// An expression.
+    Lone,
+}
+
+impl Whole {
+    /// Whether it may end before the token.
+    pub fn ends_before(self, token: &Token) -> bool
+        ensures { result ≡ m.ends (level_of self) token.now }
+    {
+        match self {
+            Whole::List => ends_list(token),
+            Whole::Lone => ends_lone(token),
+        }
+    }
+}
+
+fn ends_list(token: &Token) -> bool
+    ensures { result ≡ m.ends_list token.now }
+{
+    matches!(
+        token,
+        Token::Mark(
+            Mark::Equal
+                | Mark::Colon
+                | Mark::PlusEqual
+                | Mark::MinusEqual
+                | Mark::StarEqual
+                | Mark::DoubleSlashEqual
+                | Mark::PercentEqual
+        )
+    )
+}
+
+fn ends_lone(token: &Token) -> bool
+    ensures { result ≡ m.ends_lone token.now }
+{
+    matches!(
+        token,
+        Token::Word(Keyword::As)
+            | Token::Mark(
+                Mark::Colon | Mark::Comma | Mark::RightParen | Mark::Equal | Mark::RightArrow
+            )
+    )
+}
