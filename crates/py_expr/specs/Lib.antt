@@ -11,3 +11,6 @@ pub mod Phrases
 pub mod Readers
 pub mod Stacks
 pub mod Laws
+pub mod LineEnds
+pub mod Readings
+pub mod Targets

@@ -10,5 +10,6 @@ mod operand;
 mod operator;
 pub mod phrase;
 mod reader;
+mod targets;
 #[cfg(test)]
 mod tests;

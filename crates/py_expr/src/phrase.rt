@@ -10,6 +10,7 @@ use crate::build::build;
 use crate::machine::{Frame, Mode, Step, Whole};
 use crate::nesting::nesting_of;
 use crate::reader::Reader;
+use crate::targets::{deep, target_in};
 use py_lexer::token::Token;
 use py_tree::expression::{Expr, Target};
 use std::alloc::{AllocError, Global};
@@ -193,10 +194,17 @@ impl<'a> Phrase<'a> {
         }
     }
 
-    /// The target that the phrase is, if it is one (Python reference: assignment statements).
+    /// The target that the phrase is, if it is one (Python reference: assignment statements). Its own nesting doesn't count, that of
+    /// its parts does.
     pub fn target(&self, alloc: Global) -> Result<Option<Built<Target>>, AllocError>
         ensures target { IfOk result (λ built. BuildsTarget self.now built) }
     {
-        Err(AllocError)
+        if nesting_of(alloc, &self.steps)? > MAX_NESTING + 1 {
+            return Ok(deep(&self.steps));
+        }
+        match target_in(alloc, &self.steps)? {
+            Some(target) => Ok(Some(Built::Shallow(target))),
+            None => Ok(None),
+        }
     }
 }
