@@ -8,5 +8,5 @@ pub mod Reading
 pub mod Fronts
 pub mod Taking
 pub mod Answering
-pub mod OneForm
+pub mod TargetPhrases
 pub mod PhraseTargets

@@ -10,6 +10,7 @@ use Rattle.py_expr.specs.Grammar.{Tokens, Level, P, E, L, Spells, Joined, Items}
 use Rattle.py_expr.specs.Ends.{IsEnd}
 use Rattle.py_tree.specs.Joined.{target_of}
 use Rattle.py_tree.specs.declared.expression.Target as code
+use Rattle.py_expr.specs.declared.machine.Step as code_step
 use Rattle.py_expr.specs.declared.phrase.Phrase.{Phrase}
 use Rattle.py_expr.specs.declared.phrase.Built.{Built}
 use Rattle.py_expr.specs.declared.phrase.Built.TheVariants.{Shallow, TooDeep}
@@ -21,11 +22,11 @@ use Rattle.py_expr.specs.Depth.{target_nesting}
 use Rattle.py_expr.specs.Machine as m
 use Rattle.py_expr.specs.Machine.{Step, Steps, Read, read_to}
 use Rattle.py_expr.specs.Emitted.{emit, emit_text, emit_items, trees, nestings}
-use Rattle.py_expr.specs.Targets.{with_name, names_put, several, to_attribute, to_index, in_parentheses, by_newest, target_in, deep}
+use Rattle.py_expr.specs.Targets.{with_name, names_put, several, to_attribute, to_index, in_parentheses, target_in, deep, maybe_target}
 use Rattle.py_expr.proofs.Complete.{is_read}
 use Rattle.py_expr.proofs.Builds.{grows}
 use Rattle.py_expr.proofs.Nested.{nests}
-use Rattle.py_expr.proofs.OneForm.{names_listed, as_phrase, primary_is, many_items, many_is, place_is, assigned_is}
+use Rattle.py_expr.proofs.TargetPhrases.{names_listed, as_phrase, many_items, many_is, assigned_is}
 
 -- ---- names
 
@@ -77,10 +78,14 @@ empty_end [] = refl
 empty_end (n ∷ ns) = ap (λ z. n ∷ z) (empty_end ns)
 
 names_between : (s r : Tokens) (n : Text) (ns : List Text) → s ≡ token.Name n ∷ t.comma ∷ r → (q : Tokens) → NamesAt r q ns → NamesAt s q (n ∷ ns)
-names_between _ r n ns refl q h = next_name h
+names_between s r n ns h q i = subst (λ z. NamesAt z q (n ∷ ns)) (sym h) (next_name i)
 
 last_between : (s r : Tokens) (n : Text) → s ≡ token.Name n ∷ r → NamesAt s r (n ∷ [])
-last_between _ r n refl = last_name
+last_between s r n h = subst (λ z. NamesAt z r (n ∷ [])) (sym h) last_name
+
+append_one : (b : List Text) (n : Text) (ns : List Text) → (b ++ n ∷ []) ++ ns ≡ b ++ n ∷ ns
+append_one [] n ns = refl
+append_one (a ∷ b) n ns = ap (λ z. a ∷ z) (append_one b n ns)
 
 items_put : {s r : Tokens} {es : Expressions} (i : Items s r es) (o : Steps) (all : List Text) → names_put (emit_items i o) ≡ Some all → NamesPut s r o all
 items_put g.no_item o all h = record { names = []; before = all; front = no_names; put = h; all_are = empty_end all }
@@ -95,12 +100,8 @@ items_put {s = s} {r = r} (g.next_item {m = q} d i) o all h =
       before = z.before;
       front = names_between s q z.name y.names z.front r y.front;
       put = z.put;
-      all_are = y.all_are ∙ ap (λ b. b ++ y.names) z.all_are ∙ snoc z.before z.name y.names;
+      all_are = y.all_are ∙ ap (λ b. b ++ y.names) z.all_are ∙ append_one z.before z.name y.names;
     }
-  where
-    snoc : (b : List Text) (n : Text) (ns : List Text) → (b ++ n ∷ []) ++ ns ≡ b ++ n ∷ ns
-    snoc [] n ns = refl
-    snoc (a ∷ b) n ns = ap (λ z. a ∷ z) (snoc b n ns)
 
 -- a name, a comma and names are many, if there are some
 many_from : {s r : Tokens} (a : Text) (ns : List Text) → NamesAt s r ns → 1 ≤ length ns → Many (token.Name a ∷ t.comma ∷ s) r (a ∷ ns)
@@ -122,10 +123,12 @@ record ManyAt (s r : Tokens) (g' : Target) : Type 0 where
   target_is : g' ≡ x.ToNames names
 
 many_at_front : (s q r : Tokens) (g' : Target) (n a b : Text) (names ns : List Text) → s ≡ token.Name n ∷ t.comma ∷ q → NamesAt q r names → n ∷ names ≡ a ∷ b ∷ ns → g' ≡ x.ToNames (a ∷ b ∷ ns) → ManyAt s r g'
-many_at_front _ q r g' n _ b names ns refl h refl i = record { names = n ∷ names; many = many_from n names h (omega arith); target_is = i }
+many_at_front s q r g' n a b names ns e h i k =
+    let some_names : 1 ≤ length names = omega (arith, ap length i) in
+    record { names = n ∷ names; many = subst (λ z. Many z r (n ∷ names)) (sym e) (many_from n names h some_names); target_is = k ∙ ap x.ToNames (sym i) }
 
 first_of : (b names all : List Text) (n : Text) → Some [] ≡ Some b → all ≡ b ++ n ∷ [] → all ++ names ≡ n ∷ names
-first_of _ names _ n refl refl = refl
+first_of b names all n h i = let none : [] ≡ b = cc in ap (λ z. z ++ names) (i ∙ ap (λ z. z ++ n ∷ []) (sym none))
 
 items_many : {s q r : Tokens} {e : Expression} {es : Expressions} (d : Spells E s (t.comma ∷ q) e) (i : Items q r es) (g' : Target) → several (names_put (emit_items i (emit d []))) ≡ Some g' → ManyAt s r g'
 items_many {s = s} {q = q} {r = r} d i g' h =
@@ -155,7 +158,7 @@ many_at _ g' h = absurd cc
 -- ---- what is found is a target
 
 place_at : {s r : Tokens} (a g' : Target) → Place s r a → Some a ≡ Some g' → Assigned s r g'
-place_at _ g' p refl = l.to_place p
+place_at {s = s} {r = r} a g' p h = let same : a ≡ g' = cc in subst (λ z. Assigned s r z) same (l.to_place p)
 
 names_at : {s r : Tokens} (g' : Target) → ManyAt s r g' → Assigned s r g'
 names_at {s = s} {r = r} g' y = subst (λ a. Assigned s r a) (sym y.target_is) (l.to_names y.many)
@@ -188,11 +191,7 @@ is_assigned _ g' h = absurd cc
 -- ---- a target is found
 
 put_behind : (n : Text) (names : Option (List Text)) (before : List Text) → names ≡ Some before → with_name (m.PutName n) names ≡ Some (before ++ n ∷ [])
-put_behind n _ before refl = refl
-
-append_one : (b : List Text) (n : Text) (ns : List Text) → (b ++ n ∷ []) ++ ns ≡ b ++ n ∷ ns
-append_one [] n ns = refl
-append_one (a ∷ b) n ns = ap (λ z. a ∷ z) (append_one b n ns)
+put_behind n names before h = ap (with_name (m.PutName n)) h
 
 many_put : {s r : Tokens} {ns : List Text} (i : Many s r ns) (o : Steps) (before : List Text) → names_put o ≡ Some before → names_put (emit_items (many_items i) o) ≡ Some (before ++ ns)
 many_put (l.two_names {a = a} {b = b}) o before h = put_behind b (with_name (m.PutName a) (names_put o)) (before ++ a ∷ []) (put_behind a (names_put o) before h) ∙ ap Some (append_one before a (b ∷ []))
@@ -230,14 +229,14 @@ flat : (ns : List Text) → deepest (names_listed ns) ≤ 1
 flat [] = omega arith
 flat (n ∷ ns) = omega (arith, flat ns)
 
-steps_in : Option Read → Steps
+abbrev steps_in : Option Read → Steps
 steps_in None = []
 steps_in (Some y) = y.steps
 
 one_emitted : {s r : Tokens} {e f : Expression} (d : Spells L s r e) (d' : Spells L s r f) → IsEnd L r → emit d [] ≡ emit d' []
 one_emitted d d' h = ap steps_in (sym (is_read d h) ∙ is_read d' h)
 
-head_of : List ℕ → ℕ
+abbrev head_of : List ℕ → ℕ
 head_of [] = 0
 head_of (n ∷ st) = n
 
@@ -294,27 +293,32 @@ counted {e = e} d o n h c = c (nesting e) [] (ap nestings h ∙ nests d [])
 deep_is : (s r : Tokens) (e : Expression) (d : Spells L s r e) → IsEnd L r → (o : Steps) → o ≡ emit d [] → (n : ℕ) → 201 < n → Counted n o → (built : Option (Built code.Target)) → built ≡ deep o → IsTarget s r built
 deep_is s r e d h o i n far c None b = λ a j.
   let k = counted d o n i c in
-  omega (far, k, nestings_same d h j, not_deep j (sym (b ∙ ap deep (i ∙ one_emitted d (assigned_is j) h))))
+  omega (arith, far, k, nestings_same d h j, not_deep j (sym (b ∙ ap deep (i ∙ one_emitted d (assigned_is j) h))))
 deep_is s r e d h o i n far c (Some TooDeep) b =
     let y = deep_place d (sym (b ∙ ap deep i)) in
     let k = counted d o n i c in
-    (y.target, y.assigned, omega (far, k, y.nesting_is))
+    (y.target, y.assigned, omega (arith, far, k, y.nesting_is))
 deep_is s r e d h o i n far c (Some (Shallow tree)) b = absurd (never_shallow o tree (sym b))
 
-pub deep_builds : (phrase : Phrase) (n : ℕ) → 201 < n → Counted n (steps_of phrase.steps.items) → (built : Option (Built code.Target)) → built ≡ deep (steps_of phrase.steps.items) → BuildsTarget phrase built
-deep_builds phrase n far c built b = λ s r e y. deep_is s r e y.spells y.ends (steps_of phrase.steps.items) y.steps n far c built b
+-- the steps, where they were counted and where they were looked at, are the phrase's
+
+pub deep_builds : (phrase : Phrase) (counts looks : List code_step.Step) → counts ≡ phrase.steps.items → looks ≡ phrase.steps.items → (n : ℕ) → 201 < n → Counted n (steps_of counts)
+    → (built : Option (Built code.Target)) → built ≡ deep (steps_of looks) → BuildsTarget phrase built
+deep_builds phrase counts looks h i n far c built b = λ s r e y. deep_is s r e y.spells y.ends (steps_of phrase.steps.items) y.steps n far (subst (λ z. Counted n (steps_of z)) h c) built (b ∙ ap (λ z. deep (steps_of z)) i)
 
 none_is : (s r : Tokens) (e : Expression) (d : Spells L s r e) → IsEnd L r → (o : Steps) → o ≡ emit d [] → None ≡ target_in o → (a : Target) → Assigned s r a → ⊥
 none_is s r e d h o i b a j = let both : None ≡ Some a = b ∙ ap target_in (i ∙ one_emitted d (assigned_is j) h) ∙ is_found j in cc
 
-pub none_builds : (phrase : Phrase) → None ≡ target_in (steps_of phrase.steps.items) → BuildsTarget phrase None
-none_builds phrase b = λ s r e y. none_is s r e y.spells y.ends (steps_of phrase.steps.items) y.steps b
+pub none_builds : (phrase : Phrase) (looks : List code_step.Step) → looks ≡ phrase.steps.items → (found : Option code.Target) → found ≡ None → maybe_target found ≡ target_in (steps_of looks) → BuildsTarget phrase None
+none_builds phrase looks i found f b = λ s r e y. none_is s r e y.spells y.ends (steps_of phrase.steps.items) y.steps (sym (ap maybe_target f) ∙ b ∙ ap (λ z. target_in (steps_of z)) i)
 
 shallow_is : (s r : Tokens) (e : Expression) (d : Spells L s r e) → IsEnd L r → (o : Steps) → o ≡ emit d [] → (n : ℕ) → n ≤ 201 → Counted n o → (a : Target) → Some a ≡ target_in o → Assigned s r a × (target_nesting a ≤ 200)
 shallow_is s r e d h o i n near c a b =
     let j = is_assigned d a (sym (b ∙ ap target_in i)) in
     let k = counted d o n i c in
-    (j, omega (near, k, nestings_same d h j, under a))
+    (j, omega (arith, near, k, nestings_same d h j, under a))
 
-pub shallow_builds : (phrase : Phrase) (n : ℕ) → n ≤ 201 → Counted n (steps_of phrase.steps.items) → (tree : code.Target) → Some (target_of tree) ≡ target_in (steps_of phrase.steps.items) → BuildsTarget phrase (Some (Shallow tree))
-shallow_builds phrase n near c tree b = λ s r e y. shallow_is s r e y.spells y.ends (steps_of phrase.steps.items) y.steps n near c (target_of tree) b
+pub shallow_builds : (phrase : Phrase) (counts looks : List code_step.Step) → counts ≡ phrase.steps.items → looks ≡ phrase.steps.items → (n : ℕ) → n ≤ 201 → Counted n (steps_of counts)
+    → (found : Option code.Target) (tree : code.Target) → found ≡ Some tree → maybe_target found ≡ target_in (steps_of looks) → BuildsTarget phrase (Some (Shallow tree))
+shallow_builds phrase counts looks h i n near c found tree f b =
+  λ s r e y. shallow_is s r e y.spells y.ends (steps_of phrase.steps.items) y.steps n near (subst (λ z. Counted n (steps_of z)) h c) (target_of tree) (sym (ap maybe_target f) ∙ b ∙ ap (λ z. target_in (steps_of z)) i)

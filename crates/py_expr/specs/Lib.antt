@@ -11,6 +11,4 @@ pub mod Phrases
 pub mod Readers
 pub mod Stacks
 pub mod Laws
-pub mod LineEnds
-pub mod Readings
 pub mod Targets
