@@ -1,5 +1,5 @@
 -- The steps of a phrase tell whether it is a target, and which.
-use Rattle.std.proofs.Common.{◌≡◌, ℕ, zero, suc, ◌+◌, ◌≤◌, ◌<◌, max, length, List, [], ◌∷◌, ◌++◌, Option, Some, None, refl, sym, ap, subst, ◌∙◌, arith}
+use Rattle.std.proofs.Common.{◌≡◌, ℕ, suc, ◌≤◌, ◌<◌, length, List, [], ◌∷◌, ◌++◌, Option, Some, None, refl, sym, ap, subst, ◌∙◌, arith}
 use Rattle.py_tree.specs.Syntax as x
 use Rattle.py_tree.specs.Syntax.{Text, Expression, Expressions, Target}
 use Rattle.py_tree.specs.Nesting.{nesting, deepest}
@@ -21,7 +21,7 @@ use Rattle.py_expr.specs.Lines.{Many, Place, Assigned}
 use Rattle.py_expr.specs.Depth.{target_nesting}
 use Rattle.py_expr.specs.Machine as m
 use Rattle.py_expr.specs.Machine.{Step, Steps, Read, read_to}
-use Rattle.py_expr.specs.Emitted.{emit, emit_text, emit_items, trees, nestings}
+use Rattle.py_expr.specs.Emitted.{emit, emit_text, emit_items, nestings}
 use Rattle.py_expr.specs.Targets.{with_name, names_put, several, to_attribute, to_index, in_parentheses, target_in, deep, maybe_target}
 use Rattle.py_expr.proofs.Complete.{is_read}
 use Rattle.py_expr.proofs.Builds.{grows}
@@ -292,8 +292,8 @@ counted {e = e} d o n h c = c (nesting e) [] (ap nestings h ∙ nests d [])
 
 deep_is : (s r : Tokens) (e : Expression) (d : Spells L s r e) → IsEnd L r → (o : Steps) → o ≡ emit d [] → (n : ℕ) → 201 < n → Counted n o → (built : Option (Built code.Target)) → built ≡ deep o → IsTarget s r built
 deep_is s r e d h o i n far c None b = λ a j.
-  let k = counted d o n i c in
-  omega (arith, far, k, nestings_same d h j, not_deep j (sym (b ∙ ap deep (i ∙ one_emitted d (assigned_is j) h))))
+    let k = counted d o n i c in
+    omega (arith, far, k, nestings_same d h j, not_deep j (sym (b ∙ ap deep (i ∙ one_emitted d (assigned_is j) h))))
 deep_is s r e d h o i n far c (Some TooDeep) b =
     let y = deep_place d (sym (b ∙ ap deep i)) in
     let k = counted d o n i c in
@@ -321,4 +321,4 @@ shallow_is s r e d h o i n near c a b =
 pub shallow_builds : (phrase : Phrase) (counts looks : List code_step.Step) → counts ≡ phrase.steps.items → looks ≡ phrase.steps.items → (n : ℕ) → n ≤ 201 → Counted n (steps_of counts)
     → (found : Option code.Target) (tree : code.Target) → found ≡ Some tree → maybe_target found ≡ target_in (steps_of looks) → BuildsTarget phrase (Some (Shallow tree))
 shallow_builds phrase counts looks h i n near c found tree f b =
-  λ s r e y. shallow_is s r e y.spells y.ends (steps_of phrase.steps.items) y.steps n near (subst (λ z. Counted n (steps_of z)) h c) (target_of tree) (sym (ap maybe_target f) ∙ b ∙ ap (λ z. target_in (steps_of z)) i)
+    λ s r e y. shallow_is s r e y.spells y.ends (steps_of phrase.steps.items) y.steps n near (subst (λ z. Counted n (steps_of z)) h c) (target_of tree) (sym (ap maybe_target f) ∙ b ∙ ap (λ z. target_in (steps_of z)) i)

@@ -45,11 +45,7 @@ fn behind(alloc: Global, names: Option<Texts>, name: &Text) -> Result<Option<Tex
     }
 }
 
-fn with_name(
-    alloc: Global,
-    names: Option<Texts>,
-    step: Step,
-) -> Result<Option<Texts>, AllocError>
+fn with_name(alloc: Global, names: Option<Texts>, step: Step) -> Result<Option<Texts>, AllocError>
     ensures { IfOk result (λ all. all ≡ m.with_name (step_of step.entry) names) }
 {
     match step {
@@ -88,10 +84,12 @@ fn in_parentheses(alloc: Global, steps: &[Step]) -> Result<Option<Target>, Alloc
     ensures { IfOk result (λ target. m.maybe_target target ≡ m.in_parentheses (steps_of steps.now)) }
 {
     match take_newest(steps) {
-        Some(Newest {
-            step: Step::MakeTuple(_),
-            before,
-        }) => Ok(several(names_of(alloc, before)?)),
+        Some(
+            Newest {
+                step: Step::MakeTuple(_),
+                before,
+            },
+        ) => Ok(several(names_of(alloc, before)?)),
         _ => Ok(None),
     }
 }
@@ -153,10 +151,12 @@ pub fn deep(steps: &[Step]) -> Option<Built<Target>>
     ensures { result ≡ m.deep (steps_of steps.now) }
 {
     match take_newest(steps) {
-        Some(Newest {
-            step: Step::MakeAttr(_) | Step::MakeIndex,
-            ..
-        }) => Some(Built::TooDeep),
+        Some(
+            Newest {
+                step: Step::MakeAttr(_) | Step::MakeIndex,
+                ..
+            },
+        ) => Some(Built::TooDeep),
         _ => None,
     }
 }
