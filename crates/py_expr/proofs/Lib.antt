@@ -1,5 +1,6 @@
 pub mod Complete
 pub mod Sound
+pub mod WholeSound
 pub mod Builds
 pub mod Nested
 pub mod Names
