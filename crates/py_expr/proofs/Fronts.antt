@@ -7,8 +7,7 @@ use Rattle.py_expr.specs.Machine.{read, read_to}
 use Rattle.py_expr.specs.Emitted.{emit}
 use Rattle.py_expr.specs.Phrases.{AtFront, as_read}
 use Rattle.py_expr.proofs.Complete.{is_read}
-use Rattle.py_expr.proofs.Sound.{is_spelled}
-use Rattle.py_expr.proofs.Wholes.{IsWhole}
+use Rattle.py_expr.proofs.WholeSound.{IsWhole, is_spelled}
 
 at_front : (k : Level) → IsWhole k → (s : Tokens) (found : Option Phrase) → as_read found ≡ read k s → AtFront k s found
 at_front k w s None e = λ r x d h. let both : None ≡ Some (read_to (emit d []) r) = e ∙ is_read d h in absurd cc

@@ -1,6 +1,6 @@
 pub mod Complete
-pub mod Wholes
 pub mod Sound
+pub mod WholeSound
 pub mod Builds
 pub mod Nested
 pub mod Names
@@ -9,6 +9,8 @@ pub mod Reading
 pub mod Fronts
 pub mod Taking
 pub mod Answering
+pub mod TargetPhrases
+pub mod PhraseTargets
 pub mod OneForm
 pub mod ForNames
 pub mod FoundAt

@@ -17,6 +17,7 @@ use Rattle.py_expr.specs.Lines.{Augmented, Many, Names, Place, Assigned, Annotat
 use Rattle.py_expr.specs.LineEnds.{EndsNames, EndsParameter, EndsAnnotation, EndsItem, EndsItems}
 use Rattle.py_expr.specs.Readings.{Same}
 use Rattle.py_expr.specs.Forms as form
+use Rattle.py_expr.proofs.TargetPhrases.{names_listed, as_phrase, primary_is, place_is, assigned_is}
 use Rattle.py_expr.specs.Forms.{Form, Head}
 
 -- what one_front says of phrases
@@ -128,39 +129,6 @@ one_names _ r q _ _ (l.names_in_parentheses {s = s} {names = ns} m) i (l.names_i
     let x = one_many s (t.right_paren ∷ r) (t.right_paren ∷ q) ns ms m tt n tt in record { thing = ap syntax.ToNames x.thing; rest = ap behind x.rest }
 
 -- ---- targets are phrases
-
-abbrev pub names_listed : List Text → syntax.Expressions
-names_listed [] = syntax.end_of_expressions
-names_listed (n ∷ ns) = syntax.more_expressions (syntax.Name n) (names_listed ns)
-
-abbrev pub as_phrase : Target → Expression
-as_phrase (syntax.ToName n) = syntax.Name n
-as_phrase (syntax.ToAttr e n) = syntax.Attr e n
-as_phrase (syntax.ToIndex e i) = syntax.Index e i
-as_phrase (syntax.ToNames ns) = syntax.Tuple (names_listed ns)
-
-pub primary_is : {s r : Tokens} {e : Expression} → Spells P s r e → Spells E s r e
-primary_is d = g.unconditional (g.a_disjunct (g.a_conjunct (g.affirmed (g.uncompared (g.a_term (g.a_factor (g.a_primary d)))))))
-
-many_items : {s r : Tokens} {ns : List Text} → Many s r ns → g.Items s r (names_listed ns)
-many_items l.two_names = g.next_item (primary_is g.a_name) (g.last_item (primary_is g.a_name))
-many_items l.two_names_and_comma = g.next_item (primary_is g.a_name) (g.next_item (primary_is g.a_name) g.no_item)
-many_items (l.another_name m) = g.next_item (primary_is g.a_name) (many_items m)
-
-pub many_is : {s r : Tokens} {ns : List Text} → Many s r ns → Spells L s r (syntax.Tuple (names_listed ns))
-many_is l.two_names = g.a_tuple (primary_is g.a_name) (g.last_item (primary_is g.a_name))
-many_is l.two_names_and_comma = g.a_tuple (primary_is g.a_name) (g.next_item (primary_is g.a_name) g.no_item)
-many_is (l.another_name m) = g.a_tuple (primary_is g.a_name) (many_items m)
-
-pub place_is : {s r : Tokens} {a : Target} → Place s r a → Spells L s r (as_phrase a)
-place_is l.to_name = g.single (primary_is g.a_name)
-place_is (l.to_attribute d) = g.single (primary_is (g.an_attribute d))
-place_is (l.to_index d i) = g.single (primary_is (g.an_index d i))
-
-pub assigned_is : {s r : Tokens} {a : Target} → Assigned s r a → Spells L s r (as_phrase a)
-assigned_is (l.to_place p) = place_is p
-assigned_is (l.to_names m) = many_is m
-assigned_is (l.to_names_in_parentheses m) = g.single (primary_is (g.a_group (many_is m)))
 
 listed_one : (ns ms : List Text) → names_listed ns ≡ names_listed ms → ns ≡ ms
 listed_one [] [] h = refl

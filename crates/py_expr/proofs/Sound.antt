@@ -1,4 +1,4 @@
--- What is read is spelled.
+-- What is read token by token is spelled.
 use Rattle.std.proofs.Common.{◌≡◌, ℕ, zero, suc, ◌+◌, ◌≤◌, Bool, true, false, length, List, [], ◌∷◌, ◌++◌, Option, Some, None, refl, sym, ap, subst, ◌∙◌, arith}
 use Rattle.std.proofs.lemmas.Bool.{leb-true}
 use Rattle.std.specs.Prelude.{nat_le, cond}
@@ -16,60 +16,58 @@ use Rattle.py_lexer.specs.declared.token.Mark.TheVariants as mark
 use Rattle.py_expr.specs.Tokens as t
 use Rattle.py_expr.specs.Grammar as g
 use Rattle.py_expr.specs.Grammar.{Tokens, Level, P, U, M, S, C, N, A, O, E, L, Spells, Joined, Items, Entries, Arguments, KeywordsAt, distinct}
-use Rattle.py_expr.specs.Ends.{IsEnd}
 use Rattle.py_expr.specs.Machine as m
 use Rattle.py_expr.specs.Machine.{Frame, Frames, Step, Steps, Mode, State, Done, Read, state, done, wants, wants_behind, makes, made, close, after, negation, operand, operand_or_end, no_repeats, called, call, paren_after_comma, bracket_after_comma, brace_after_comma, left_of, stands_at, push, tight, loose, compared_by, other, comma, listed, paren, bracket, brace, colon, in_call, named, equal, joined, follow, behind, dotted, not_in, constant_of, is_constant, is, step, ended, ended_at, ended_after_comma, finish, read_to, with_rest, ends, stop, go_on, run, bottom, read}
 use Rattle.py_expr.specs.Emitted.{count, count_pairs, count_keywords, emit, emit_text, emit_items, emit_entries, emit_arguments, emit_keywords}
-use Rattle.py_expr.proofs.Wholes.{IsWhole, nothing_ends, is_end}
 use Rattle.py_expr.proofs.Complete.{rank, names_of, distinct_is, names_length}
 
 -- the tokens from the first on, and the level of the whole
-record Start : Type 0 where
-  level : Level
-  tokens : Tokens
+pub record Start : Type 0 where
+  pub level : Level
+  pub tokens : Tokens
 
 -- ---- what the lists so far make of those that follow
 
 -- a tuple of n items and of those that follow
-abbrev Tupled : ℕ → Tokens → Tokens → Steps → Steps → Type 0
+abbrev pub Tupled : ℕ → Tokens → Tokens → Steps → Steps → Type 0
 Tupled n s r base out = (all : Expressions) × (d : Spells L s r (x.Tuple all)) × (emit d base ≡ m.MakeTuple n ∷ out)
 
 -- n items, each with its comma, stand between s and q; base are the steps before them
-abbrev Before : ℕ → Tokens → Tokens → Steps → Steps → Type 0
+abbrev pub Before : ℕ → Tokens → Tokens → Steps → Steps → Type 0
 Before zero s q base o = (s ≡ q) × (o ≡ base)
 Before (suc n) s q base o = (r : Tokens) (es : Expressions) (i : Items q r es) → Tupled (suc n + count es) s r base (emit_items i o)
 
-abbrev BeforeItems : ℕ → Tokens → Tokens → Steps → Steps → Type 0
+abbrev pub BeforeItems : ℕ → Tokens → Tokens → Steps → Steps → Type 0
 BeforeItems n s q base o = (r : Tokens) (es : Expressions) (i : Items q r es) → (all : Expressions) × (j : Items s r all) × (emit_items j base ≡ emit_items i o) × (count all ≡ n + count es)
 
-abbrev BeforePairs : ℕ → Tokens → Tokens → Steps → Steps → Type 0
+abbrev pub BeforePairs : ℕ → Tokens → Tokens → Steps → Steps → Type 0
 BeforePairs n s q base o = (r : Tokens) (ps : Pairs) (i : Entries q r ps) → (all : Pairs) × (j : Entries s r all) × (emit_entries j base ≡ emit_entries i o) × (count_pairs all ≡ n + count_pairs ps)
 
-abbrev BeforeArguments : ℕ → Tokens → Tokens → Steps → Steps → Type 0
+abbrev pub BeforeArguments : ℕ → Tokens → Tokens → Steps → Steps → Type 0
 BeforeArguments n s q base o = (r : Tokens) (es : Expressions) (ks : Keywords) (i : Arguments q r es ks) → (all : Expressions) × (j : Arguments s r all ks) × (emit_arguments j base ≡ emit_arguments i o) × (count all ≡ n + count es)
 
 -- an operand from s to r, and what was open before it
-record Left (k : Level) (fits : ℕ) (opened : Steps → Tokens → Type 0) (fs : Frames) (o : Steps) (r : Tokens) : Type 0 where
-  from : Tokens
-  tree : Expression
-  before : Steps
-  spells : Spells k from r tree
-  steps_are : o ≡ emit spells before
-  below : opened before from
-  fit : fits ≤ wants fs
+pub record Left (k : Level) (fits : ℕ) (opened : Steps → Tokens → Type 0) (fs : Frames) (o : Steps) (r : Tokens) : Type 0 where
+  pub from : Tokens
+  pub tree : Expression
+  pub before : Steps
+  pub spells : Spells k from r tree
+  pub steps_are : o ≡ emit spells before
+  pub below : opened before from
+  pub fit : fits ≤ wants fs
 
-data Comparing : Tokens → Tokens → CompareOp → Type 0 where
+pub data Comparing : Tokens → Tokens → CompareOp → Type 0 where
   one_token : {r : Tokens} {c : Token} {op : CompareOp} → g.Comparison c op → Comparing (c ∷ r) r op
   two_tokens : {r : Tokens} → Comparing (t.not_ ∷ t.in_ ∷ r) r compare.NotIn
 
-abbrev InBraces : ℕ → (Steps → Tokens → Type 0) → Steps → Tokens → Type 0
+abbrev pub InBraces : ℕ → (Steps → Tokens → Type 0) → Steps → Tokens → Type 0
 InBraces n opened o q = (s : Tokens) × (base : Steps) × BeforePairs n s q base o × opened base (t.left_brace ∷ s)
 
-abbrev InKeyword : Text → (Steps → Tokens → Type 0) → Steps → Tokens → Type 0
+abbrev pub InKeyword : Text → (Steps → Tokens → Type 0) → Steps → Tokens → Type 0
 InKeyword name opened o q = (base : Steps) × (o ≡ m.PutName name ∷ base) × opened base (token.Name name ∷ t.equal ∷ q)
 
 -- the frames and steps are those of the tokens from s0 up to q
-abbrev Opened : Start → Frames → Steps → Tokens → Type 0
+abbrev pub Opened : Start → Frames → Steps → Tokens → Type 0
 Opened s0 [] o q = ⊥
 Opened s0 (m.Line n ∷ fs) o q = (s0.level ≡ L) × (fs ≡ []) × Before n s0.tokens q [] o
 Opened s0 (m.Lone ∷ fs) o q = (s0.level ≡ E) × (fs ≡ []) × (s0.tokens ≡ q) × (o ≡ [])
@@ -92,10 +90,10 @@ Opened s0 (m.Test ∷ fs) o q = Left O 8 (Opened s0 fs) fs o (t.if_ ∷ q)
 Opened s0 (m.Other ∷ fs) o q = Left O 0 (λ b p. Left O 8 (Opened s0 fs) fs b (t.if_ ∷ p)) fs o (t.else_ ∷ q)
 
 -- a phrase of level k has been read behind the frames
-abbrev Phrase : Level → Start → Tokens → Frames → Steps → Type 0
+abbrev pub Phrase : Level → Start → Tokens → Frames → Steps → Type 0
 Phrase k s0 r fs o = Left k 0 (Opened s0 fs) fs o r
 
-fitting : (k : Level) (fits : ℕ) (s0 : Start) (r : Tokens) (fs : Frames) (o : Steps) → Phrase k s0 r fs o → fits ≤ wants fs → Left k fits (Opened s0 fs) fs o r
+pub fitting : (k : Level) (fits : ℕ) (s0 : Start) (r : Tokens) (fs : Frames) (o : Steps) → Phrase k s0 r fs o → fits ≤ wants fs → Left k fits (Opened s0 fs) fs o r
 fitting k fits s0 r fs o p h = record { from = p.from; tree = p.tree; before = p.before; spells = p.spells; steps_are = p.steps_are; below = p.below; fit = h }
 
 weaken : (j k : Level) (up : (s r : Tokens) (e : Expression) → Spells j s r e → Spells k s r e) → ((s r : Tokens) (e : Expression) (d : Spells j s r e) (o : Steps) → emit (up s r e d) o ≡ emit d o)
@@ -140,7 +138,7 @@ module _ (s0 : Start) (r : Tokens) (fs : Frames) (o : Steps) where
   as_O O h p = p
   as_O j h p = weaken A O (λ s r e d. g.a_disjunct d) (λ s r e d o. refl) s0 r fs o (as_A j (omega (arith, h)) p)
 
-  as_E : (j : Level) → rank j ≤ 8 → Phrase j s0 r fs o → Phrase E s0 r fs o
+  pub as_E : (j : Level) → rank j ≤ 8 → Phrase j s0 r fs o → Phrase E s0 r fs o
   as_E E h p = p
   as_E j h p = weaken O E (λ s r e d. g.unconditional d) (λ s r e d o. refl) s0 r fs o (as_O j (omega (arith, h)) p)
 
@@ -243,16 +241,16 @@ pop_ok s0 r m.Other fs o j p' h i =
     }
 pop_ok s0 r _ fs o j p h i = absurd (omega arith)
 
-record Closed (k : ℕ) (s0 : Start) (r : Tokens) (d : Done) : Type 0 where
-  level : Level
-  phrase : Phrase level s0 r d.frames d.steps
-  closed : rank level ≤ k
+pub record Closed (k : ℕ) (s0 : Start) (r : Tokens) (d : Done) : Type 0 where
+  pub level : Level
+  pub phrase : Phrase level s0 r d.frames d.steps
+  pub closed : rank level ≤ k
 
 closed_or : (k : ℕ) (s0 : Start) (r : Tokens) (b : Bool) (top : ℕ) (d e : Done) → (b ≡ true → top ≤ k) → (top ≤ k → Closed k s0 r d) → Closed k s0 r e → Closed k s0 r (cond b d e)
 closed_or k s0 r true top d e h yes_ no_ = yes_ (h refl)
 closed_or k s0 r false top d e h yes_ no_ = no_
 
-close_ok : (k : ℕ) → k ≤ 8 → (s0 : Start) (r : Tokens) (fs : Frames) (o : Steps) (j : Level) → Phrase j s0 r fs o → rank j ≤ k → rank j ≤ wants fs → Closed k s0 r (close k fs o)
+pub close_ok : (k : ℕ) → k ≤ 8 → (s0 : Start) (r : Tokens) (fs : Frames) (o : Steps) (j : Level) → Phrase j s0 r fs o → rank j ≤ k → rank j ≤ wants fs → Closed k s0 r (close k fs o)
 close_ok k h s0 r [] o j p i q = absurd p.below
 close_ok k h s0 r (f ∷ fs) o j p i q =
     closed_or k s0 r (nat_le (makes f) k) (makes f) (close k fs (made f o)) (done (f ∷ fs) o) (leb-true (makes f) k)
@@ -270,7 +268,7 @@ wants_one m.Or = omega arith
 wants_one m.Test = omega arith
 wants_one _ = omega arith
 
-wants_some : (s0 : Start) (fs : Frames) (o : Steps) (q : Tokens) → Opened s0 fs o q → 1 ≤ wants fs
+pub wants_some : (s0 : Start) (fs : Frames) (o : Steps) (q : Tokens) → Opened s0 fs o q → 1 ≤ wants fs
 wants_some s0 [] o q p = absurd p
 wants_some s0 (f ∷ fs) o q p = wants_one f
 
@@ -284,12 +282,12 @@ add_item (suc n) s q r base o o' e b d h = λ r' es i.
     let y = b r' (x.more_expressions e es) (g.next_item d i) in
     (y.0, y.1, y.2 ∙ ap (λ (k : ℕ). m.MakeTuple k ∷ emit_items i (emit d o)) (omega arith) ∙ ap (λ (z : Steps). m.MakeTuple (suc (suc n) + count es) ∷ emit_items i z) (sym h))
 
-record Whole (s r : Tokens) (base out : Steps) : Type 0 where
-  tree : Expression
-  spells : Spells L s r tree
-  steps_are : out ≡ emit spells base
+pub record Whole (s r : Tokens) (base out : Steps) : Type 0 where
+  pub tree : Expression
+  pub spells : Spells L s r tree
+  pub steps_are : out ≡ emit spells base
 
-last_item : (n : ℕ) (s q r : Tokens) (base o o' : Steps) (e : Expression) → Before n s q base o → (d : Spells E q r e) → o' ≡ emit d o → Whole s r base (listed n o')
+pub last_item : (n : ℕ) (s q r : Tokens) (base o o' : Steps) (e : Expression) → Before n s q base o → (d : Spells E q r e) → o' ≡ emit d o → Whole s r base (listed n o')
 last_item zero s q r base o o' e b d h =
     let here : Whole q r o o' = record { tree = e; spells = g.single d; steps_are = h } in
     subst (λ (y : Tokens). Whole y r base o') (sym b.0) (subst (λ (z : Steps). Whole q r z o') b.1 here)
@@ -297,7 +295,7 @@ last_item (suc n) s q r base o o' e b d h =
     let y = b r (x.more_expressions e x.end_of_expressions) (g.last_item d) in
     record { tree = x.Tuple y.0; spells = y.1; steps_are = ap (λ (k : ℕ). m.MakeTuple k ∷ o') (omega arith) ∙ ap (λ (z : Steps). m.MakeTuple (suc n + 1) ∷ z) h ∙ sym y.2 }
 
-last_comma : (n : ℕ) (s r : Tokens) (base o : Steps) → Before (suc n) s r base o → Whole s r base (m.MakeTuple (suc n) ∷ o)
+pub last_comma : (n : ℕ) (s r : Tokens) (base o : Steps) → Before (suc n) s r base o → Whole s r base (m.MakeTuple (suc n) ∷ o)
 last_comma n s r base o b =
     let y = b r x.end_of_expressions g.no_item in
     record { tree = x.Tuple y.0; spells = y.1; steps_are = ap (λ (k : ℕ). m.MakeTuple k ∷ o) (omega arith) ∙ sym y.2 }
@@ -319,7 +317,7 @@ add_argument n s q r base o o' e b d h = λ r' es ks i.
 
 -- ---- what holds behind a token
 
-abbrev Holds : Start → Mode → Frames → Steps → Tokens → Type 0
+abbrev pub Holds : Start → Mode → Frames → Steps → Tokens → Type 0
 Holds s0 m.Want fs o r = Opened s0 fs o r
 Holds s0 m.Next fs o r = Opened s0 fs o r
 Holds s0 m.Have fs o r = Phrase P s0 r fs o
@@ -329,7 +327,7 @@ Holds s0 m.Is fs o r = Left S 4 (Opened s0 fs) fs o (t.is_ ∷ r)
 Holds s0 m.IsNot fs o r = Left S 4 (Opened s0 fs) fs o (t.is_ ∷ t.not_ ∷ r)
 Holds s0 m.Compared fs o r = Left C 4 (Opened s0 fs) fs o r
 
-abbrev After : Start → Option State → Tokens → Type 0
+abbrev pub After : Start → Option State → Tokens → Type 0
 After s0 None r = Unit {0}
 After s0 (Some s) r = Holds s0 s.mode s.frames s.steps r
 
@@ -694,7 +692,7 @@ module _ (s0 : Start) (r : Tokens) where
   compared_ok : (fs : Frames) (o : Steps) (c : Token) → Left C 4 (Opened s0 fs) fs o (c ∷ r) → After s0 (follow fs o c) r
   compared_ok fs o c p = follow_ok s0 r fs o C (omega arith) p.fit c (record { from = p.from; tree = p.tree; before = p.before; spells = p.spells; steps_are = p.steps_are; below = p.below; fit = omega arith })
 
-  step_ok : (mode : Mode) (fs : Frames) (o : Steps) (c : Token) → Holds s0 mode fs o (c ∷ r) → After s0 (step mode fs o c) r
+  pub step_ok : (mode : Mode) (fs : Frames) (o : Steps) (c : Token) → Holds s0 mode fs o (c ∷ r) → After s0 (step mode fs o c) r
   step_ok m.Want fs o c p = operand_ok fs o c p
   step_ok m.Next fs o c p = next_ok fs o c p
   step_ok m.Have fs o c p = behind_ok fs o c p
@@ -703,77 +701,3 @@ module _ (s0 : Start) (r : Tokens) where
   step_ok m.Is fs o c p = is_ok fs o c p
   step_ok m.IsNot fs o c p = is_not_ok fs o c p
   step_ok m.Compared fs o c p = compared_ok fs o c p
-
--- ---- the whole
-
-record Spelled (k : Level) (s r : Tokens) (out : Steps) : Type 0 where
-  tree : Expression
-  spells : Spells k s r tree
-  steps_are : out ≡ emit spells []
-
-abbrev EndedAt : Start → Tokens → Option Steps → Type 0
-EndedAt s0 r None = Unit {0}
-EndedAt s0 r (Some out) = Spelled s0.level s0.tokens r out
-
-as_list : (s0 : Start) (r : Tokens) (out : Steps) → s0.level ≡ L → Whole s0.tokens r [] out → Spelled s0.level s0.tokens r out
-as_list s0 r out e y = subst (λ (k : Level). Spelled k s0.tokens r out) (sym e) (record { tree = y.tree; spells = y.spells; steps_are = y.steps_are })
-
-ended_ok : (s0 : Start) (r : Tokens) (fs : Frames) (o : Steps) → Phrase E s0 r fs o → EndedAt s0 r (ended fs o)
-ended_ok s0 r (m.Line n ∷ []) o p = as_list s0 r (listed n o) p.below.0 (last_item n s0.tokens p.from r [] p.before o p.tree p.below.2 p.spells p.steps_are)
-ended_ok s0 r (m.Lone ∷ []) o p =
-    let here : Spelled E p.from r o = record { tree = p.tree; spells = p.spells; steps_are = p.steps_are ∙ ap (emit p.spells) p.below.3 } in
-    subst (λ (k : Level). Spelled k s0.tokens r o) (sym p.below.0) (subst (λ (y : Tokens). Spelled E y r o) (sym p.below.2) here)
-ended_ok s0 r _ o p = tt
-
-ended_after_ok : (s0 : Start) (r : Tokens) (fs : Frames) (o : Steps) → Opened s0 fs o r → EndedAt s0 r (ended_after_comma fs o)
-ended_after_ok s0 r (m.Line (suc n) ∷ []) o p = as_list s0 r (m.MakeTuple (suc n) ∷ o) p.0 (last_comma n s0.tokens r [] o p.2)
-ended_after_ok s0 r _ o p = tt
-
-closed_end : (s0 : Start) (r : Tokens) (d : Done) → Closed 8 s0 r d → EndedAt s0 r (ended_at d)
-closed_end s0 r d y = ended_ok s0 r d.frames d.steps (as_E s0 r d.frames d.steps y.level y.closed y.phrase)
-
-finish_ok : (s0 : Start) (r : Tokens) (mode : Mode) (fs : Frames) (o : Steps) → Holds s0 mode fs o r → EndedAt s0 r (finish mode fs o)
-finish_ok s0 r m.Next fs o p = ended_after_ok s0 r fs o p
-finish_ok s0 r m.Have fs o p = closed_end s0 r (close 8 fs o) (close_ok 8 (omega arith) s0 r fs o P p (omega arith) (wants_some s0 fs p.before p.from p.below))
-finish_ok s0 r m.Compared fs o p = closed_end s0 r (close 8 fs o) (close_ok 8 (omega arith) s0 r fs o C (fitting C 0 s0 r fs o (record { from = p.from; tree = p.tree; before = p.before; spells = p.spells; steps_are = p.steps_are; below = p.below; fit = omega arith }) (omega arith)) (omega arith) p.fit)
-finish_ok s0 r _ fs o p = tt
-
--- read, and ended where a whole may end
-abbrev Ended : Start → Option Read → Type 0
-Ended s0 None = Unit {0}
-Ended s0 (Some y) = Spelled s0.level s0.tokens y.rest y.steps × IsEnd s0.level y.rest
-
-with_rest_ok : (s0 : Start) (r : Tokens) (out : Option Steps) → IsEnd s0.level r → EndedAt s0 r out → Ended s0 (with_rest r out)
-with_rest_ok s0 r None h p = tt
-with_rest_ok s0 r (Some o) h p = (p, h)
-
-stop_ok : (s0 : Start) (r : Tokens) (b : Bool) (mode : Mode) (fs : Frames) (o : Steps) → (b ≡ true → IsEnd s0.level r) → Holds s0 mode fs o r → Ended s0 (stop b mode fs o r)
-stop_ok s0 r true mode fs o h p = with_rest_ok s0 r (finish mode fs o) (h refl) (finish_ok s0 r mode fs o p)
-stop_ok s0 r false mode fs o h p = tt
-
-goes_on : (s0 : Start) (r : Tokens) (next : Option State) (stopped : Option Read) → ((mode : Mode) (fs : Frames) (o : Steps) → Holds s0 mode fs o r → Ended s0 (run s0.level r mode fs o)) → After s0 next r → Ended s0 stopped → Ended s0 (go_on next (run s0.level r) stopped)
-goes_on s0 r None stopped rest h h' = h'
-goes_on s0 r (Some s) stopped rest h h' = rest s.mode s.frames s.steps h
-
-run_ok : (s0 : Start) → IsWhole s0.level → (r : Tokens) (mode : Mode) (fs : Frames) (o : Steps) → Holds s0 mode fs o r → Ended s0 (run s0.level r mode fs o)
-run_ok s0 w [] mode fs o p = with_rest_ok s0 [] (finish mode fs o) (nothing_ends s0.level w) (finish_ok s0 [] mode fs o p)
-run_ok s0 w (c ∷ r) mode fs o p =
-    goes_on s0 r (step mode fs o c) (stop (ends s0.level c) mode fs o (c ∷ r)) (λ mode fs o p. run_ok s0 w r mode fs o p) (step_ok s0 r mode fs o c p)
-    (stop_ok s0 (c ∷ r) (ends s0.level c) mode fs o (is_end s0.level w c r) p)
-
-pub record IsPhrase (k : Level) (s : Tokens) (y : Read) : Type 0 where
-  pub tree : Expression
-  pub spells : Spells k s y.rest tree
-  pub steps_are : y.steps ≡ emit spells []
-  pub is_end : IsEnd k y.rest
-
-begun : (k : Level) → IsWhole k → (s : Tokens) → Opened (record { level = k; tokens = s }) (bottom k ∷ []) [] s
-begun L w s = (refl, refl, (refl, refl))
-begun E w s = (refl, refl, refl, refl)
-begun _ w s = absurd w
-
-pub is_spelled : (k : Level) → IsWhole k → (s : Tokens) (y : Read) → read k s ≡ Some y → IsPhrase k s y
-is_spelled k w s y e =
-    let s0 : Start = record { level = k; tokens = s } in
-    let p = subst (Ended s0) e (run_ok s0 w s m.Next (bottom k ∷ []) [] (begun k w s)) in
-    record { tree = p.0.tree; spells = p.0.spells; steps_are = p.0.steps_are; is_end = p.1 }

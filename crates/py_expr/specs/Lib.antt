@@ -11,6 +11,7 @@ pub mod Phrases
 pub mod Readers
 pub mod Stacks
 pub mod Laws
+pub mod Targets
 pub mod LineAnswers
 pub mod Readings
 pub mod LineEnds

@@ -1,13 +1,16 @@
 -- What a phrase that was found at the front of tokens is, and what is built of it.
 use Rattle.std.specs.Prelude.{◌≡◌, ◌≤◌, ◌<◌, drop, [], Option, Some, None}
-use Rattle.py_tree.specs.Syntax.{Expression}
+use Rattle.py_tree.specs.Syntax.{Expression, Target}
 use Rattle.py_tree.specs.Nesting.{nesting}
-use Rattle.py_tree.specs.Joined.{expression_of}
+use Rattle.py_tree.specs.Joined.{expression_of, target_of}
 use Rattle.py_tree.specs.declared.expression.Expr.{Expr}
 use Rattle.py_expr.specs.declared.phrase.Phrase.{Phrase}
 use Rattle.py_expr.specs.declared.phrase.Built.{Built}
 use Rattle.py_expr.specs.declared.phrase.Built.TheVariants.{Shallow, TooDeep}
-use Rattle.py_expr.specs.Grammar.{Tokens, Level, Spells}
+use Rattle.py_expr.specs.Grammar.{Tokens, Level, L, Spells}
+use Rattle.py_tree.specs.declared.expression.Target as code
+use Rattle.py_expr.specs.Lines.{Assigned}
+use Rattle.py_expr.specs.Depth.{target_nesting}
 use Rattle.py_expr.specs.Ends.{IsEnd}
 use Rattle.py_expr.specs.declared.phrase.Stop.{Stop}
 use Rattle.py_expr.specs.declared.reader.Reader.{Reader}
@@ -49,3 +52,12 @@ IsExpression e TooDeep = 200 < nesting e
 
 abbrev pub BuildsExpression : Phrase → Built Expr → Type 0
 BuildsExpression phrase built = (k : Level) (s r : Tokens) (e : Expression) → Is phrase k s r e → IsExpression e built
+
+-- exactly where a target stands at the front of s and r follows it, it is built, where it is nested at most 200 deep
+abbrev pub IsTarget : Tokens → Tokens → Option (Built code.Target) → Type 0
+IsTarget s r (Some (Shallow tree)) = Assigned s r (target_of tree) × (target_nesting (target_of tree) ≤ 200)
+IsTarget s r (Some TooDeep) = (g : Target) × Assigned s r g × (200 < target_nesting g)
+IsTarget s r None = (g : Target) → Assigned s r g → ⊥
+
+abbrev pub BuildsTarget : Phrase → Option (Built code.Target) → Type 0
+BuildsTarget phrase built = (s r : Tokens) (e : Expression) → Is phrase L s r e → IsTarget s r built

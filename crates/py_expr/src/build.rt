@@ -439,13 +439,21 @@ fn grow(alloc: Global, trees: &mut Vec<Expr>, step: Step) -> Result<(), AllocErr
     }
 }
 
-/// The tree that the steps build.
-pub fn build(alloc: Global, steps: &[Step]) -> Result<Option<Expr>, AllocError>
-    ensures { IfOk result (λ built. BuildsTop built (m.trees (steps_of steps.now))) }
+/// The trees that the steps build, the newest last.
+pub fn build_all(alloc: Global, steps: &[Step]) -> Result<Vec<Expr>, AllocError>
+    ensures { IfOk result (λ built. trees_of built.items ≡ m.trees (steps_of steps.now)) }
 {
     let mut trees = Vec::new(alloc);
     for step in steps {
         grow(alloc, &mut trees, *step)?;
     }
+    Ok(trees)
+}
+
+/// The tree that the steps build.
+pub fn build(alloc: Global, steps: &[Step]) -> Result<Option<Expr>, AllocError>
+    ensures { IfOk result (λ built. BuildsTop built (m.trees (steps_of steps.now))) }
+{
+    let mut trees = build_all(alloc, steps)?;
     Ok(trees.pop())
 }

@@ -17,5 +17,6 @@ mod operator;
 mod parameters;
 pub mod phrase;
 mod reader;
+mod targets;
 #[cfg(test)]
 mod tests;

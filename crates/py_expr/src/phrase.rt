@@ -4,14 +4,15 @@ ghost use Rattle.py_expr.specs.Laws.{OnePhrase};
 ghost use Rattle.py_expr.specs.Machine as m;
 ghost use Rattle.py_expr.specs.Views.{mode_of, level_of, frames_of, steps_of};
 ghost use Rattle.py_expr.specs.declared.phrase.Stop.{Stop};
-ghost use Rattle.py_expr.specs.Phrases.{as_read, Stops, AtFront, BuildsExpression};
+ghost use Rattle.py_expr.specs.Phrases.{as_read, Stops, AtFront, BuildsExpression, BuildsTarget};
 
 use crate::build::build;
 use crate::machine::{Frame, Mode, Step, Whole};
 use crate::nesting::nesting_of;
 use crate::reader::Reader;
+use crate::targets::{deep, target_in};
 use py_lexer::token::Token;
-use py_tree::expression::Expr;
+use py_tree::expression::{Expr, Target};
 use std::alloc::{AllocError, Global};
 
 /// A phrase at the front of tokens, and what follows it.
@@ -190,6 +191,20 @@ impl<'a> Phrase<'a> {
         match build(alloc, &self.steps)? {
             Some(tree) => Ok(Built::Shallow(tree)),
             None => Ok(Built::TooDeep),
+        }
+    }
+
+    /// The target that the phrase is, if it is one (Python reference: assignment statements). Its own nesting doesn't count, that of
+    /// its parts does.
+    pub fn target(&self, alloc: Global) -> Result<Option<Built<Target>>, AllocError>
+        ensures target { IfOk result (λ built. BuildsTarget self.now built) }
+    {
+        if nesting_of(alloc, &self.steps)? > MAX_NESTING + 1 {
+            return Ok(deep(&self.steps));
+        }
+        match target_in(alloc, &self.steps)? {
+            Some(target) => Ok(Some(Built::Shallow(target))),
+            None => Ok(None),
         }
     }
 }

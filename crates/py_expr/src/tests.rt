@@ -1,6 +1,6 @@
 use crate::phrase::{Built, expression_at, list_at};
 use py_lexer::token::{Keyword, Mark, Token};
-use py_tree::expression::Expr;
+use py_tree::expression::{Expr, Target};
 use py_tree::text::Text;
 use std::alloc::{AllocError, Global};
 use std::test::Fail;
@@ -250,5 +250,87 @@ fn builds_up_to_nesting_200(rt: HostRuntime) -> Result<(), Fail> {
     }
     assert!(rt; is_shallow(alloc, "(", ")", 1000)?);
     assert!(rt; !is_shallow(alloc, "", "+ b", 100_000)?);
+    Ok(())
+}
+
+#[derive(Clone, Copy, Debug, PartialEq, Eq)]
+enum Aim {
+    NoPhrase,
+    NoTarget,
+    Name,
+    Attribute,
+    Index,
+    Names(usize),
+    TooDeep,
+}
+
+fn aim_of(target: &Target) -> Aim {
+    match target {
+        Target::Name(_) => Aim::Name,
+        Target::Attr(..) => Aim::Attribute,
+        Target::Index(..) => Aim::Index,
+        Target::Names(names) => Aim::Names(names.len()),
+    }
+}
+
+/// What the expression or tuple at the front aims at.
+fn aim_at(alloc: Global, tokens: &[Token]) -> Result<Aim, AllocError> {
+    let Some(phrase) = list_at(alloc, tokens)? else {
+        return Ok(Aim::NoPhrase);
+    };
+    match phrase.target(alloc)? {
+        Some(Built::Shallow(target)) => Ok(aim_of(&target)),
+        Some(Built::TooDeep) => Ok(Aim::TooDeep),
+        None => Ok(Aim::NoTarget),
+    }
+}
+
+#[test]
+fn knows_targets(rt: HostRuntime) -> Result<(), Fail> {
+    let alloc = rt.alloc();
+    for (text, want) in [
+        ("a", Aim::Name),
+        ("a = b", Aim::Name),
+        ("a . b += 1", Aim::Attribute),
+        ("f ( ) [ 1 ] . b", Aim::Attribute),
+        ("( a ) . b", Aim::Attribute),
+        ("a [ b , 1 ]", Aim::Index),
+        ("a , b", Aim::Names(2)),
+        ("a , b , c ,", Aim::Names(3)),
+        ("( a , b )", Aim::Names(2)),
+        ("( a , b , ) = c", Aim::Names(2)),
+        ("1", Aim::NoTarget),
+        ("( )", Aim::NoTarget),
+        ("( a )", Aim::NoTarget),
+        ("( a . b )", Aim::NoTarget),
+        ("( a [ b ] )", Aim::NoTarget),
+        ("a ,", Aim::NoTarget),
+        ("( a , )", Aim::NoTarget),
+        ("( ( a , b ) )", Aim::NoTarget),
+        ("( a ) , b", Aim::NoTarget),
+        ("a , b . c", Aim::NoTarget),
+        ("( a , b ) , c", Aim::NoTarget),
+        ("[ a , b ]", Aim::NoTarget),
+        ("f ( )", Aim::NoTarget),
+        ("- a . b", Aim::NoTarget),
+        ("a + b [ c ]", Aim::NoTarget),
+        ("a if b else c . a", Aim::NoTarget),
+        ("a b", Aim::NoPhrase),
+    ] {
+        assert_eq!(rt; aim_at(alloc, &tokens(alloc, text)?)?, want, "at {text}");
+    }
+    Ok(())
+}
+
+#[test]
+fn a_target_may_be_deeper_than_its_parts(rt: HostRuntime) -> Result<(), Fail> {
+    let alloc = rt.alloc();
+    for (behind, want) in [(". b", Aim::Attribute), ("[ b ]", Aim::Index)] {
+        let mut tokens = tokens(alloc, "a")?;
+        push_again(alloc, &mut tokens, behind, 200)?;
+        assert_eq!(rt; aim_at(alloc, &tokens)?, want, "at {behind}");
+        push_again(alloc, &mut tokens, behind, 1)?;
+        assert_eq!(rt; aim_at(alloc, &tokens)?, Aim::TooDeep, "at {behind}");
+    }
     Ok(())
 }
