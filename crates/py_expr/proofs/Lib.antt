@@ -13,3 +13,4 @@ pub mod Shorter
 pub mod ParameterLists
 pub mod BaseFacts
 pub mod NameLists
+pub mod ImportLists

@@ -13,3 +13,4 @@ pub mod LineAnswers
 pub mod Readings
 pub mod LineEnds
 pub mod Runs
+pub mod ImportRuns

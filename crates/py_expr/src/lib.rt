@@ -8,6 +8,7 @@ mod for_names;
 pub mod form;
 mod found;
 mod front;
+mod imports;
 mod machine;
 mod nesting;
 mod operand;
