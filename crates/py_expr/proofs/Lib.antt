@@ -14,3 +14,4 @@ pub mod ParameterLists
 pub mod BaseFacts
 pub mod NameLists
 pub mod ImportLists
+pub mod Wholes

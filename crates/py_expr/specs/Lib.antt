@@ -14,3 +14,4 @@ pub mod Readings
 pub mod LineEnds
 pub mod Runs
 pub mod ImportRuns
+pub mod Statements

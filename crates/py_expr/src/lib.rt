@@ -16,3 +16,4 @@ mod operator;
 mod parameters;
 pub mod phrase;
 mod reader;
+mod whole;
