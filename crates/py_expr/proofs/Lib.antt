@@ -15,3 +15,5 @@ pub mod BaseFacts
 pub mod NameLists
 pub mod ImportLists
 pub mod Wholes
+pub mod KindsOf
+pub mod MadeOfTwo

@@ -10,6 +10,7 @@ mod found;
 mod front;
 mod imports;
 mod machine;
+mod made;
 mod nesting;
 mod operand;
 mod operator;
