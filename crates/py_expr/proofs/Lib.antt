@@ -17,3 +17,4 @@ pub mod ImportLists
 pub mod Wholes
 pub mod KindsOf
 pub mod MadeOfTwo
+pub mod SimpleLines

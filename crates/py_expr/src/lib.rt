@@ -18,3 +18,4 @@ mod parameters;
 pub mod phrase;
 mod reader;
 mod whole;
+mod worded;
