@@ -18,3 +18,8 @@ pub mod Shorter
 pub mod ParameterLists
 pub mod BaseFacts
 pub mod NameLists
+pub mod ImportLists
+pub mod Wholes
+pub mod KindsOf
+pub mod MadeOfTwo
+pub mod SimpleLines

@@ -16,3 +16,5 @@ pub mod LineAnswers
 pub mod Readings
 pub mod LineEnds
 pub mod Runs
+pub mod ImportRuns
+pub mod Statements

@@ -9,8 +9,10 @@ mod for_names;
 pub mod form;
 mod found;
 mod front;
+mod imports;
 pub mod line;
 mod machine;
+mod made;
 mod nesting;
 mod operand;
 mod operator;
@@ -20,3 +22,5 @@ mod reader;
 mod targets;
 #[cfg(test)]
 mod tests;
+mod whole;
+mod worded;
