@@ -1,2 +1,3 @@
 pub mod Remains
 pub mod Complete
+pub mod Sound
