@@ -1,3 +1,4 @@
 pub mod Remains
 pub mod Complete
 pub mod Sound
+pub mod Begins
