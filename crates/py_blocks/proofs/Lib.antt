@@ -2,3 +2,4 @@ pub mod Remains
 pub mod Complete
 pub mod Sound
 pub mod Begins
+pub mod Levels

@@ -38,11 +38,12 @@ wants_block f = false
 
 -- whether a row of indentation i may stand behind these rows: the first row is not indented, the one behind a head that wants a
 -- block is deeper than the head, and any other is as deep as the last row or as one that encloses it
+abbrev pub stands_behind : Option Row → Rows → ℕ → Bool
+stands_behind None around i = nat_eq i 0
+stands_behind (Some t) around i = if wants_block t.form then nat_lt t.indent i else list_any (λ a. nat_eq a.indent i) around
+
 abbrev pub indent_stands : Rows → ℕ → Bool
-indent_stands rows i = stands_behind (last_or None rows) where
-  stands_behind : Option Row → Bool
-  stands_behind None = nat_eq i 0
-  stands_behind (Some t) = if wants_block t.form then nat_lt t.indent i else list_any (λ a. nat_eq a.indent i) (enclosing rows)
+indent_stands rows i = stands_behind (last_or None rows) (enclosing rows) i
 
 -- why the row t, with which they begin no module, can't stand behind these rows
 pub data Refused (rows : Rows) (t : Row) : Code → Type 0 where

@@ -232,8 +232,9 @@ abbrev pub finish : State → Option Statements
 finish st = close_waiting st.outer st.inner st.waiting
 
 -- whether a row of that indentation may be next
+abbrev pub admits_in : List Frame → Block → Option Owner → ℕ → Bool
+admits_in fs b None i = nat_eq b.indent i || list_any (λ f. nat_eq f.block.indent i) fs
+admits_in fs b (Some o) i = nat_lt b.indent i
+
 abbrev pub admits : State → ℕ → Bool
-admits st i = admits_where st.waiting where
-  admits_where : Option Owner → Bool
-  admits_where None = nat_eq st.inner.indent i || list_any (λ f. nat_eq f.block.indent i) st.outer
-  admits_where (Some o) = nat_lt st.inner.indent i
+admits st i = admits_in st.outer st.inner st.waiting i
