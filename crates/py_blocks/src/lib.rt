@@ -1,4 +1,6 @@
 //! Blocks: the one module that the forms of its logical lines spell by their indentations.
 #![tactic(auto)]
 
+mod context;
 pub mod form_line;
+mod open_block;

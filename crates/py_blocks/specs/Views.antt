@@ -1,0 +1,54 @@
+-- No definition of the language: what `build` keeps, as the plain data of the machine.
+use Rattle.std.specs.Prelude.{ℕ, Bool, List, map, reverse, Option, Some, None, option_map}
+use Rattle.py_tree.specs.Syntax as x
+use Rattle.py_tree.specs.Syntax.{Statement}
+use Rattle.py_tree.specs.Joined.{expression_of, maybe_of, param_of, target_of, statement_of, statements_of, branch_of, clause_of}
+use Rattle.py_tree.specs.Lawful as lawful
+use Rattle.py_tree.specs.declared.statement.Stmt.{Stmt}
+use Rattle.py_tree.specs.declared.statement.Branch as branch
+use Rattle.py_tree.specs.declared.statement.Clause as clause
+use Rattle.py_blocks.specs.Blocks as spec
+use Rattle.py_blocks.specs.Machine as machine
+use Rattle.py_blocks.specs.declared.context.Place.{Place}
+use Rattle.py_blocks.specs.declared.context.Context.{Context}
+use Rattle.py_blocks.specs.declared.context.Context.TheVariants as a_context
+use Rattle.py_blocks.specs.declared.open_block.Block.{Block}
+use Rattle.py_blocks.specs.declared.open_block.Last.{Last}
+use Rattle.py_blocks.specs.declared.open_block.Last.TheVariants as a_last
+use Rattle.py_blocks.specs.declared.open_block.Owner.{Owner}
+use Rattle.py_blocks.specs.declared.open_block.Owner.TheVariants as an_owner
+
+abbrev pub place_of : Place → lawful.Place
+place_of p = record { in_function = p.in_function; in_loop = p.in_loop; in_clause = p.in_clause }
+
+abbrev pub context_of : Context → spec.Context
+context_of (a_context.Code p) = spec.Code (place_of p)
+context_of a_context.ClassFront = spec.ClassFront
+context_of a_context.ClassRest = spec.ClassRest
+
+abbrev pub done_of : List Stmt → List Statement
+done_of done = reverse (map statement_of done)
+
+abbrev pub branches_of : List branch.Branch → List x.Branch
+branches_of branches = reverse (map branch_of branches)
+
+abbrev pub clauses_of : List clause.Clause → List x.Clause
+clauses_of clauses = reverse (map clause_of clauses)
+
+abbrev pub last_of : Last → machine.Last
+last_of a_last.Whole = machine.Whole
+last_of (a_last.If line branches) = machine.OpenIf line (branches_of branches)
+last_of (a_last.Try line body clauses) = machine.OpenTry line (statements_of body) (clauses_of clauses)
+
+abbrev pub owner_of : Owner → machine.Owner
+owner_of (an_owner.Branch line branches at test) = machine.Branch line (branches_of branches) at (expression_of test)
+owner_of (an_owner.Else line branches) = machine.Orelse line (branches_of branches)
+owner_of (an_owner.While line test) = machine.While line (expression_of test)
+owner_of (an_owner.For line target iterable) = machine.For line (target_of target) (expression_of iterable)
+owner_of (an_owner.Try line) = machine.Try line
+owner_of (an_owner.Except line body clauses matches bind) = machine.Except line (statements_of body) (clauses_of clauses) (maybe_of matches) bind
+owner_of (an_owner.Def line name params result) = machine.Def line name (map param_of params) (maybe_of result)
+owner_of (an_owner.Class line name base) = machine.Class line name (maybe_of base)
+
+abbrev pub block_of : Block → machine.Block
+block_of b = record { indent = b.indent; context = context_of b.context; done = done_of b.done; last = last_of b.last }
