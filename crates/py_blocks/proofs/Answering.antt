@@ -129,11 +129,11 @@ pub level_fault : (rows : Rows) (t : Row) (st to : State) → Read rows st → a
 level_fault rows t st to r e f deep =
     let shows = shows_next t to r.shows f in
     let over : 100 < level (rows ++ t ∷ []) = omega (arith, level_is shows) in
-    record
-      { before = begins_read rows st r
-      ; not_with = λ h. let under = shallow_whole (rows ++ t ∷ []) h.1 in absurd (omega arith)
-      ; why = too_deep (admits_is t.indent r.shows ∙ e) (begun (rows ++ t ∷ []) to (runs_next rows t st (Some to) r.runs f)) over
-      }
+    record {
+      before = begins_read rows st r;
+      not_with = λ h. let under = shallow_whole (rows ++ t ∷ []) h.1 in absurd (omega arith);
+      why = too_deep (admits_is t.indent r.shows ∙ e) (begun (rows ++ t ∷ []) to (runs_next rows t st (Some to) r.runs f)) over;
+    }
 
 pub fault_in : (rows : Rows) (n : ℕ) (t : Row) (code : Code) → slice_get rows n ≡ Some t → Faulty (take n rows) t code → FaultIn rows t.line code
 fault_in rows n t code get f = at_row n get f.before f.not_with f.why

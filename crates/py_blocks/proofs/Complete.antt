@@ -147,7 +147,7 @@ goes_back t [] b s r body whole deep tail up = go (met b.indent b.context b.done
 goes_back t (f ∷ fs) b s r body whole deep tail up = go (λ o. goes_back t fs (put f.owner (onto o x.end_of_statements) f.block) s) (met b.indent b.context b.done b.last t s r body tail)
   where
     go : ((all : List Statement) (q : Rows) (outer whole : Statements) → Sorted (put f.owner (onto all x.end_of_statements) f.block).indent fs → TailOf (put f.owner (onto all x.end_of_statements) f.block) (t ∷ s) q outer → Up fs q outer whole
-            → Back t (put f.owner (onto all x.end_of_statements) f.block).indent (place_back t fs (put f.owner (onto all x.end_of_statements) f.block)) s whole)
+        → Back t (put f.owner (onto all x.end_of_statements) f.block).indent (place_back t fs (put f.owner (onto all x.end_of_statements) f.block)) s whole)
         → Met b.indent b.context b.done b.last t s r body → Back t b.indent (place_back t (f ∷ fs) b) s whole
     go rest (inner e goes) = inner_back t (f ∷ fs) b s r body whole deep e goes up
     go rest (outer all e at is) =
@@ -169,7 +169,7 @@ below_goes : (t : Row) (fs : List Frame) (b : Block) (o : Owner) (s r : Rows) (b
 below_goes t fs b o s r body whole deep owned up =
     let found = body_goes owned.spelled in
     rw (lt-ltb b.indent t.indent found.0)
-        (place_goes t (record { block = b; owner = o } ∷ fs) (fresh t.indent (inside b.context o) []) s owned.mid owned.block whole (found.0, deep) found.1 (r, body, owned.ends, up))
+    (place_goes t (record { block = b; owner = o } ∷ fs) (fresh t.indent (inside b.context o) []) s owned.mid owned.block whole (found.0, deep) found.1 (r, body, owned.ends, up))
 
 pub step_goes : (st : State) (t : Row) (s : Rows) (whole : Statements) → Sorted st.inner.indent st.outer → Completes st (t ∷ s) whole → Goes_on (step st t) s whole
 step_goes st t s whole deep c = go st.waiting c.2

@@ -45,10 +45,10 @@ take_front (suc n) [] s = (0, refl)
 take_front (suc n) (a ∷ rows) s = let f = take_front n rows s in (suc f.0, ap (λ r. a ∷ r) f.1)
 
 pub starts_front : (rows s : Rows) → Starts (rows ++ s) → Starts rows
-starts_front rows s h =
-    ( (s ++ h.0.0, h.0.1, subst (λ r. ModuleAt r h.0.1) (append_assoc rows s h.0.0) h.0.2)
-    , λ n. let f = take_front n rows s in subst (λ r. level r ≤ 100) (sym f.1) (h.1 f.0)
-    )
+starts_front rows s h = (
+  (s ++ h.0.0, h.0.1, subst (λ r. ModuleAt r h.0.1) (append_assoc rows s h.0.0) h.0.2),
+  λ n. let f = take_front n rows s in subst (λ r. level r ≤ 100) (sym f.1) (h.1 f.0),
+)
 
 -- the rows up to the n-th
 pub cut : (rows : Rows) (n : ℕ) (t : Row) → slice_get rows n ≡ Some t → (s : Rows) × (rows ≡ (take n rows ++ t ∷ []) ++ s)

@@ -125,33 +125,34 @@ left_here t fs b deep e = go (place b t.line t.form) (stands_there b t.line t.fo
   where
     not_under : nat_lt b.indent t.indent ≡ false
     not_under = le-ltb b.indent t.indent (omega (arith, e))
+
     go : (p : Option Placed) → StandsIf b.indent t.form p → LeftIf t fs b (and_then (above fs) p)
     go None h = tt
-    go (Some p) h = record
-      { at_most = omega (arith, e)
-      ; one_of = rw (eq-eqb b.indent t.indent e) refl
-      ; inner = h.indent ∙ e
-      ; waits = h.waits
-      ; sorted = subst (λ i. Sorted i fs) (sym h.indent) deep
-      ; levels = λ is none. filter_lined t.indent b.indent fs (b.indent ∷ is) (omega (arith, e)) deep ∙ ap (lined fs) (ap (λ test. cond test (b.indent ∷ filter (under t.indent) is) (filter (under t.indent) is)) not_under ∙ none)
-      }
+    go (Some p) h = record {
+      at_most = omega (arith, e);
+      one_of = rw (eq-eqb b.indent t.indent e) refl;
+      inner = h.indent ∙ e;
+      waits = h.waits;
+      sorted = subst (λ i. Sorted i fs) (sym h.indent) deep;
+      levels = λ is none. filter_lined t.indent b.indent fs (b.indent ∷ is) (omega (arith, e)) deep ∙ ap (lined fs) (ap (λ test. cond test (b.indent ∷ filter (under t.indent) is) (filter (under t.indent) is)) not_under ∙ none);
+    }
 
 or_true : (p q : Bool) → q ≡ true → (p || q) ≡ true
 or_true true q e = refl
 or_true false q e = e
 
 left_further : (t : Row) (f : Frame) (fs : List Frame) (b c : Block) (st : State) → f.block.indent < b.indent → c.indent ≡ f.block.indent → Left t fs c st → Left t (f ∷ fs) b st
-left_further t f fs b c st deep same h = record
-  { at_most = omega (arith, h.at_most, same)
-  ; one_of = or_true (nat_eq b.indent t.indent) (among f.block.indent fs t.indent) (subst (λ j. among j fs t.indent ≡ true) same h.one_of)
-  ; inner = h.inner
-  ; waits = h.waits
-  ; sorted = h.sorted
-  ; levels = λ is none.
+left_further t f fs b c st deep same h = record {
+  at_most = omega (arith, h.at_most, same);
+  one_of = or_true (nat_eq b.indent t.indent) (among f.block.indent fs t.indent) (subst (λ j. among j fs t.indent ≡ true) same h.one_of);
+  inner = h.inner;
+  waits = h.waits;
+  sorted = h.sorted;
+  levels = λ is none.
       let over : nat_lt b.indent t.indent ≡ false = le-ltb b.indent t.indent (omega (arith, h.at_most, same)) in
       let none_yet : filter (under t.indent) (b.indent ∷ is) ≡ [] = ap (λ test. cond test (b.indent ∷ filter (under t.indent) is) (filter (under t.indent) is)) over ∙ none in
-      subst (λ j. filter (under t.indent) (lined fs (j ∷ b.indent ∷ is)) ≡ lined st.outer []) same (h.levels (b.indent ∷ is) none_yet)
-  }
+      subst (λ j. filter (under t.indent) (lined fs (j ∷ b.indent ∷ is)) ≡ lined st.outer []) same (h.levels (b.indent ∷ is) none_yet);
+}
 
 left_back : (t : Row) (fs : List Frame) (b : Block) → Sorted b.indent fs → LeftIf t fs b (place_back t fs b)
 left_back t [] b deep = go (nat_eq b.indent t.indent) (λ e. left_here t [] b deep (eqb-true b.indent t.indent e))
@@ -161,15 +162,17 @@ left_back t [] b deep = go (nat_eq b.indent t.indent) (λ e. left_here t [] b de
     go false h = tt
 left_back t (f ∷ fs) b deep =
     go (nat_eq b.indent t.indent) (λ e. left_here t (f ∷ fs) b deep (eqb-true b.indent t.indent e))
-        (λ k. left_back t fs (put f.owner (onto k x.end_of_statements) f.block) (subst (λ i. Sorted i fs) (sym (put_indent f.owner (onto k x.end_of_statements) f.block)) deep.1))
+    (λ k. left_back t fs (put f.owner (onto k x.end_of_statements) f.block) (subst (λ i. Sorted i fs) (sym (put_indent f.owner (onto k x.end_of_statements) f.block)) deep.1))
   where
     further : (c : Block) → c.indent ≡ f.block.indent → (st : Option State) → LeftIf t fs c st → LeftIf t (f ∷ fs) b st
     further c same None h = tt
     further c same (Some st) h = left_further t f fs b c st deep.0 same h
+
     ends : (all : Option (List Statement)) → ((k : List Statement) → LeftIf t fs (put f.owner (onto k x.end_of_statements) f.block) (place_back t fs (put f.owner (onto k x.end_of_statements) f.block)))
         → LeftIf t (f ∷ fs) b (and_then (λ k. place_back t fs (put f.owner (onto k x.end_of_statements) f.block)) all)
     ends None h = tt
     ends (Some k) h = further (put f.owner (onto k x.end_of_statements) f.block) (put_indent f.owner (onto k x.end_of_statements) f.block) (place_back t fs (put f.owner (onto k x.end_of_statements) f.block)) (h k)
+
     go : (test : Bool) → (test ≡ true → LeftIf t (f ∷ fs) b (place_in t (f ∷ fs) b)) → ((k : List Statement) → LeftIf t fs (put f.owner (onto k x.end_of_statements) f.block) (place_back t fs (put f.owner (onto k x.end_of_statements) f.block)))
         → LeftIf t (f ∷ fs) b (if test then place_in t (f ∷ fs) b else and_then (λ k. place_back t fs (put f.owner (onto k x.end_of_statements) f.block)) (settled b.done b.last))
     go true here h = here refl
@@ -200,13 +203,13 @@ below_stepped t fs b o deep = go (nat_lt b.indent t.indent) refl (place (fresh t
     go true e None h = tt
     go true e (Some p) h =
         let deeper = ltb-true b.indent t.indent e in
-        record
-          { inner = h.indent
-          ; waits = h.waits
-          ; sorted = (rw h.indent deeper, deep)
-          ; levels = filter_lined t.indent b.indent fs (b.indent ∷ []) (omega (arith, deeper)) deep ∙ ap (lined fs) (ap (λ test. cond test (b.indent ∷ []) []) e)
-          ; admitted = e
-          }
+        record {
+          inner = h.indent;
+          waits = h.waits;
+          sorted = (rw h.indent deeper, deep);
+          levels = filter_lined t.indent b.indent fs (b.indent ∷ []) (omega (arith, deeper)) deep ∙ ap (lined fs) (ap (λ test. cond test (b.indent ∷ []) []) e);
+          admitted = e;
+        }
 
 stepped_if : (t : Row) (fs : List Frame) (b : Block) (o : Option Owner) → Sorted b.indent fs → SteppedIf t (record { inner = b; outer = fs; waiting = o }) (place_waiting t fs b o)
 stepped_if t fs b None deep = go (place_back t fs b) (left_back t fs b deep)

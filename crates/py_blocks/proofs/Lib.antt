@@ -6,3 +6,4 @@ pub mod Levels
 pub mod Fronts
 pub mod Answering
 pub mod Standing
+pub mod Whole

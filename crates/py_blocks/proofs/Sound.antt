@@ -92,7 +92,7 @@ begin_back i c done n (form.Simple k) =
     only_if (row i n (form.Simple k)) (Starting i c done) (simple_stands c k) (Some (placed (fresh i (behind c) (x.On n k ∷ done)) None)) (λ e s r body tail. (_, _, a_simple e, tail))
 begin_back i c done n (form.Header h l) =
     only_if (row i n (form.Header h l)) (Starting i c done) (head_stands c h) (and_then (beside_head (fresh i (behind c) done) n l) (started n h))
-        (λ e. beside_back i n h l (Starting i c done) (fresh i (behind c) done) (started n h) (head_back i c done n h l e))
+    (λ e. beside_back i n h l (Starting i c done) (fresh i (behind c) done) (started n h) (head_back i c done n h l e))
 
 -- ---- the statement before
 
@@ -143,7 +143,7 @@ try_goes_back i c done m tried cs n (form.For g e) l = tt
 try_goes_back i c done m tried cs n form.Try l = tt
 try_goes_back i c done m tried cs n (form.Except matches name) l =
     only_if_owner i n (form.Except matches name) l (TailOf (block i c done (OpenTry m tried cs))) (fresh i c done) (takes_clause cs) (Some (owner.Except m tried cs matches name))
-        (λ e s q r bd body d tail. (tail.0, x.more_clauses (x.Except matches name bd) tail.1, more e (clause_back i c cs matches name n l s q bd d tail.2), tail.3))
+    (λ e s q r bd body d tail. (tail.0, x.more_clauses (x.Except matches name bd) tail.1, more e (clause_back i c cs matches name n l s q bd d tail.2), tail.3))
 try_goes_back i c done m tried cs n (form.Def name params result) l = tt
 try_goes_back i c done m tried cs n (form.Class name base) l = tt
 
@@ -201,8 +201,8 @@ placed_back : (t : Row) (fs : List Frame) (b : Block) → StateBack t fs b (plac
 placed_back t [] b = only_if_state t [] b (nat_eq b.indent t.indent) (place_in t [] b) None (λ e. in_place t [] b (sym (eqb-true b.indent t.indent e))) tt
 placed_back t (f ∷ fs) b =
     only_if_state t (f ∷ fs) b (nat_eq b.indent t.indent) (place_in t (f ∷ fs) b) (and_then (λ k. place_back t fs (put f.owner (onto k x.end_of_statements) f.block)) (settled b.done b.last))
-        (λ e. in_place t (f ∷ fs) b (sym (eqb-true b.indent t.indent e)))
-        (out_of t f fs b (settled b.done b.last) (settles b.indent b.context b.done b.last) (λ k. placed_back t fs (put f.owner (onto k x.end_of_statements) f.block)))
+    (λ e. in_place t (f ∷ fs) b (sym (eqb-true b.indent t.indent e)))
+    (out_of t f fs b (settled b.done b.last) (settles b.indent b.context b.done b.last) (λ k. placed_back t fs (put f.owner (onto k x.end_of_statements) f.block)))
 
 -- ---- the first row of a block
 
@@ -268,6 +268,7 @@ run_back (t ∷ rows) st = go (step st t) (step_back t st) (run_back rows)
     on : (mid : State) → ((s : Rows) (whole : Statements) → Completes mid s whole → Completes st (t ∷ s) whole) → (to : Option State) → RunBack rows mid to → RunBack (t ∷ rows) st to
     on mid one None h = tt
     on mid one (Some to) h = λ s whole c. one (rows ++ s) whole (h s whole c)
+
     go : (to : Option State) → StepBack t st to → ((mid : State) → RunBack rows mid (run rows mid)) → RunBack (t ∷ rows) st (and_then (run rows) to)
     go None one h = tt
     go (Some mid) one h = on mid one (run rows mid) (h mid)
@@ -306,6 +307,7 @@ finish_back st = go st.waiting
     closing : (whole : Option Statements) → CloseBack st.outer st.inner whole → FinishBack (record { inner = st.inner; outer = st.outer; waiting = None }) whole
     closing None e = tt
     closing (Some whole) e = e
+
     go : (o : Option Owner) → FinishBack (record { inner = st.inner; outer = st.outer; waiting = o }) (owner.close_waiting st.outer st.inner o)
     go None = closing (close st.outer st.inner) (close_back st.outer st.inner)
     go (Some o) = tt

@@ -47,6 +47,7 @@ simple_one ClassFront n k h = go (or_cases (is_docstring k) (is_simple k && memb
     left : (p q : Bool) → p ≡ true → (p || q) ≡ true
     left true q e = refl
     left false q e = absurd cc
+
     go : (is_docstring k ≡ true) ⊎ ((is_simple k && member_stands k) ≡ true) → (is_docstring k || member_stands k) ≡ true
     go (inl e) = left (is_docstring k) (member_stands k) e
     go (inr e) = or_true (is_docstring k) (member_stands k) (and_parts (is_simple k) (member_stands k) e).1

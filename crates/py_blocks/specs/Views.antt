@@ -13,6 +13,7 @@ use Rattle.py_blocks.specs.declared.context.Place.{Place}
 use Rattle.py_blocks.specs.declared.context.Context.{Context}
 use Rattle.py_blocks.specs.declared.context.Context.TheVariants as a_context
 use Rattle.py_blocks.specs.declared.open_block.Block.{Block}
+use Rattle.py_blocks.specs.declared.placing.Placed.{Placed}
 use Rattle.py_blocks.specs.declared.open_block.Last.{Last}
 use Rattle.py_blocks.specs.declared.open_block.Last.TheVariants as a_last
 use Rattle.py_blocks.specs.declared.open_block.Owner.{Owner}
@@ -52,3 +53,10 @@ owner_of (an_owner.Class line name base) = machine.Class line name (maybe_of bas
 
 abbrev pub block_of : Block → machine.Block
 block_of b = record { indent = b.indent; context = context_of b.context; done = done_of b.done; last = last_of b.last }
+
+abbrev pub maybe_owner_of : Option Owner → Option machine.Owner
+maybe_owner_of None = None
+maybe_owner_of (Some o) = Some (owner_of o)
+
+abbrev pub placed_of : Placed → machine.Placed
+placed_of p = record { block = block_of p.block; waiting = maybe_owner_of p.waiting }

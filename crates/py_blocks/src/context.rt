@@ -11,7 +11,7 @@ use py_tree::expression::{Expr, Param, Target};
 use py_tree::statement::StmtKind;
 
 /// What is around a statement in its own function, or in the module where it stands in none.
-#[derive(Clone, Copy, Debug, PartialEq, Eq)]
+#[derive(Clone, Copy)]
 pub(crate) struct Place {
     pub in_function: bool,
     pub in_loop: bool,
@@ -19,7 +19,7 @@ pub(crate) struct Place {
 }
 
 /// What a block is the block of.
-#[derive(Clone, Copy, Debug, PartialEq, Eq)]
+#[derive(Clone, Copy)]
 pub(crate) enum Context {
     /// A module, a function, or a part of one.
     Code(Place),

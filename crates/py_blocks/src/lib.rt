@@ -4,3 +4,4 @@
 mod context;
 pub mod form_line;
 mod open_block;
+mod placing;
