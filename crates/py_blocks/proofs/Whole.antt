@@ -88,5 +88,3 @@ pub try_kind : (done : List Statement) (n : ℕ) (body : List Stmt) (cs : List c
 try_kind done n body cs some =
     let joined : kind_of (kind.Try body cs) ≡ x.Try (statements_of body) (clauses (map clause_of cs)) = ap kind_of (sym (kind.rolls-Try body cs)) ∙ layer (S.Try body cs) in
     settled_clauses done n (statements_of body) (map clause_of cs) (λ e. some (map_none cs e)) ∙ ap (λ k. Some (x.On n k ∷ done)) (sym joined)
-
-matches_of : (c : clause.Clause) → clause_of c ≡ x.Except (maybe_of (out-Clause c).matches) (out-Clause c).bind (statements_of (out-Clause c).body)

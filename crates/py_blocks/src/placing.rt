@@ -1,14 +1,16 @@
-ghost use Rattle.std.specs.Prelude.{◌≡◌, IfOk, map, option_map};
+ghost use Rattle.std.specs.Prelude.{◌≡◌, ℕ, IfOk, map, option_map};
 ghost use Rattle.py_expr.specs.Forms as form;
 ghost use Rattle.py_expr.specs.Forms.{form_of, head_of, maybe_kind_of};
-ghost use Rattle.py_tree.specs.Joined.{kind_of, statements_of};
+ghost use Rattle.py_tree.specs.Joined.{expression_of, kind_of, maybe_of, statements_of};
 ghost use Rattle.py_tree.specs.Syntax.{On};
 ghost use Rattle.py_blocks.specs.Machine as machine;
 ghost use Rattle.py_blocks.specs.Views.{block_of, branches_of, clauses_of, last_of, maybe_owner_of, owner_of, placed_of};
 
 use crate::open_block::{Block, Last, Owner, settled, with_statement};
 use py_expr::form::{Form, Head};
-use py_tree::statement::{Branches, Clause, Clauses, Stmt, StmtKind, Stmts};
+use py_tree::expression::Expr;
+use py_tree::statement::{Branches, Clause, Stmt, StmtKind, Stmts};
+use py_tree::text::Text;
 use std::alloc::{AllocError, Global};
 
 /// A block behind a row that was placed in it, and the head in that row where its own block is still to come.
@@ -25,14 +27,48 @@ impl Block {
     {
         match form {
             Form::Simple(kind) => self.place_simple(alloc, line, kind),
-            Form::Header(head, kind) => {
-                if starts(&head) {
-                    self.place_start(alloc, line, head, kind)
-                } else {
-                    self.go_on(alloc, line, head, kind)
-                }
-            }
+            Form::Header(head, kind) => self.place_head(alloc, line, head, kind),
         }
+    }
+
+    fn place_head(
+        self,
+        alloc: Global,
+        line: u32,
+        head: Head,
+        kind: Option<StmtKind>,
+    ) -> Result<Option<Placed>, AllocError>
+        ensures { IfOk result (λ found. option_map placed_of found ≡ machine.place (block_of self) line (form.Header (head_of head) (maybe_kind_of kind))) }
+    {
+        match head {
+            Head::Elif(test) => {
+                let (block, last) = self.split();
+                block.beside(alloc, line, kind, last.elif(line, test))
+            }
+            Head::Else => {
+                let (block, last) = self.split();
+                block.beside(alloc, line, kind, last.orelse())
+            }
+            Head::Except { matches, bind } => {
+                let (block, last) = self.split();
+                block.beside(alloc, line, kind, last.except(matches, bind))
+            }
+            start => self.place_start(alloc, line, start, kind),
+        }
+    }
+
+    /// The block without its last statement, and that.
+    fn split(self) -> (Block, Last)
+        ensures block { block_of result.0 ≡ machine.fresh (block_of self).indent (block_of self).context (block_of self).done }
+        ensures last { last_of result.1 ≡ (block_of self).last }
+    {
+        let Block {
+            indent,
+            context,
+            done,
+            last,
+        } = self;
+        (Block::fresh(indent, context, done), last)
     }
 
     fn place_simple(
@@ -86,33 +122,23 @@ impl Block {
         if !context.takes_head(&head) {
             return Ok(None);
         }
-        let Some(owner) = started(alloc, line, head) else {
-            return Ok(None);
-        };
-        Block::fresh(indent, context.behind(), done).beside_head(alloc, line, kind, owner)
+        let owner = started(alloc, line, head);
+        Block::fresh(indent, context.behind(), done).beside(alloc, line, kind, owner)
     }
 
-    /// A head that goes on with the last statement.
-    fn go_on(
+    fn beside(
         self,
         alloc: Global,
         line: u32,
-        head: Head,
         kind: Option<StmtKind>,
+        owner: Option<Owner>,
     ) -> Result<Option<Placed>, AllocError>
-        ensures { IfOk result (λ found. option_map placed_of found
-            ≡ machine.and_then (machine.beside_head (machine.fresh (block_of self).indent (block_of self).context (block_of self).done) line (maybe_kind_of kind)) (machine.continued (block_of self).last line (head_of head))) }
+        ensures { IfOk result (λ found. option_map placed_of found ≡ machine.and_then (machine.beside_head (block_of self) line (maybe_kind_of kind)) (maybe_owner_of owner)) }
     {
-        let Block {
-            indent,
-            context,
-            done,
-            last,
-        } = self;
-        let Some(owner) = continued(last, line, head) else {
-            return Ok(None);
-        };
-        Block::fresh(indent, context, done).beside_head(alloc, line, kind, owner)
+        match owner {
+            Some(owner) => self.beside_head(alloc, line, kind, owner),
+            None => Ok(None),
+        }
     }
 
     /// Takes the simple statement on the head's line as the head's block, or keeps the head where there is none.
@@ -151,13 +177,6 @@ fn alone(alloc: Global, line: u32, kind: StmtKind) -> Result<Stmts, AllocError>
     Ok(body)
 }
 
-/// Whether a head begins a statement.
-fn starts(head: &Head) -> bool
-    ensures { result ≡ machine.starts (head_of head.now) }
-{
-    !matches!(head, Head::Elif(_) | Head::Else | Head::Except { .. })
-}
-
 fn started(alloc: Global, line: u32, head: Head) -> Option<Owner>
     ensures { maybe_owner_of result ≡ machine.started line (head_of head) }
 {
@@ -190,63 +209,60 @@ fn started(alloc: Global, line: u32, head: Head) -> Option<Owner>
     }
 }
 
-fn continued(last: Last, line: u32, head: Head) -> Option<Owner>
-    ensures { maybe_owner_of result ≡ machine.continued (last_of last) line (head_of head) }
-{
-    match last {
-        Last::Whole => None,
-        Last::If {
-            line: first,
-            branches,
-        } => after_if(first, branches, line, head),
-        Last::Try {
-            line: first,
-            body,
-            clauses,
-        } => after_try(first, body, clauses, head),
+impl Last {
+    /// An `elif` behind it, where it takes one.
+    fn elif(self, at: u32, test: Expr) -> Option<Owner>
+        ensures { maybe_owner_of result ≡ machine.continued (last_of self) at (form.Elif (expression_of test)) }
+    {
+        match self {
+            Last::If { line, branches } => Some(Owner::Branch {
+                line,
+                branches,
+                at,
+                test,
+            }),
+            Last::Whole | Last::Try { .. } => None,
+        }
     }
-}
 
-fn after_if(first: u32, branches: Branches, line: u32, head: Head) -> Option<Owner>
-    ensures { maybe_owner_of result ≡ machine.after_if first (branches_of branches) line (head_of head) }
-{
-    match head {
-        Head::Elif(test) => Some(Owner::Branch {
-            line: first,
-            branches,
-            at: line,
-            test,
-        }),
-        Head::Else => Some(Owner::Else {
-            line: first,
-            branches,
-        }),
-        _ => None,
+    /// An `else` behind it, where it takes one.
+    fn orelse(self) -> Option<Owner>
+        ensures { (n : ℕ) → maybe_owner_of result ≡ machine.continued (last_of self) n form.Else }
+    {
+        match self {
+            Last::If { line, branches } => Some(Owner::Else { line, branches }),
+            Last::Whole | Last::Try { .. } => None,
+        }
     }
-}
 
-fn after_try(first: u32, body: Stmts, clauses: Clauses, head: Head) -> Option<Owner>
-    ensures { maybe_owner_of result ≡ machine.after_try first (statements_of body) (clauses_of clauses) (head_of head) }
-{
-    match head {
-        Head::Except { matches, bind } => {
-            if !takes_clause(clauses.as_slice()) {
-                return None;
-            }
-            Some(Owner::Except {
-                line: first,
+    /// A clause behind it, where it takes one.
+    fn except(self, matches: Option<Expr>, bind: Option<Text>) -> Option<Owner>
+        ensures { (n : ℕ) → maybe_owner_of result ≡ machine.continued (last_of self) n (form.Except (maybe_of matches) bind) }
+    {
+        match self {
+            Last::Try {
+                line,
                 body,
                 clauses,
-                matches,
-                bind,
-            })
+            } => {
+                if !takes_clause(clauses.as_slice()) {
+                    return None;
+                }
+                Some(Owner::Except {
+                    line,
+                    body,
+                    clauses,
+                    matches,
+                    bind,
+                })
+            }
+            Last::Whole | Last::If { .. } => None,
         }
-        _ => None,
     }
 }
 
 /// Whether a clause may stand behind these: behind one that takes all exceptions none may.
-#[tactic(auto, using(crate::proofs::Whole::takes_last, crate::proofs::Whole::takes_first))]
+
 fn takes_clause(clauses: &[Clause]) -> bool
     ensures { result ≡ machine.takes_clause (clauses_of clauses.now) }
 {
