@@ -7,3 +7,5 @@ pub mod Fronts
 pub mod Answering
 pub mod Standing
 pub mod Whole
+pub mod Frames
+pub mod Reading

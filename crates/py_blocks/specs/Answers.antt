@@ -1,13 +1,15 @@
 -- What `build` answers, in both directions. Where memory isn't found nothing is said.
-use Rattle.std.specs.Prelude.{◌≡◌, ℕ, List, Result, Ok, Err}
+use Rattle.std.specs.Prelude.{◌≡◌, ℕ, true, Result, Ok, Err}
 use Rattle.py_tree.specs.Syntax.{Statements}
 use Rattle.py_tree.specs.Joined.{module_of}
+use Rattle.py_tree.specs.Lawful.{all_stand, lawful, module_level}
 use Rattle.py_tree.specs.declared.code.Code.{Code}
 use Rattle.py_tree.specs.declared.fault.Stop.{Stop}
 use Rattle.py_tree.specs.declared.fault.Stop.TheVariants.{Fault, Memory}
 use Rattle.py_tree.specs.declared.statement.Module.{Module}
 use Rattle.py_blocks.specs.Blocks.{Rows, ModuleAt}
 use Rattle.py_blocks.specs.Faults.{Shallow, FaultIn}
+use Rattle.py_blocks.specs.Fits.{forms_fit}
 
 -- what is answered is so
 abbrev pub Right : Rows → Result Module Stop → Type 0
@@ -30,3 +32,8 @@ abbrev pub Exact : Rows → Result Module Stop → Type 0
 Exact rows answer =
     ((body : Statements) → ModuleAt rows body → Shallow rows → GivesModule answer body)
     × ((line : ℕ) (code : Code) → FaultIn rows line code → GivesFault answer line code)
+
+-- a module of forms is lawful: each statement stands where it may, and no literal is too great where none of the forms has one
+abbrev pub Lawful : Rows → Result Module Stop → Type 0
+Lawful rows (Ok made) = (all_stand module_level (module_of made) ≡ true) × (forms_fit rows ≡ true → lawful (module_of made) ≡ true)
+Lawful rows (Err stop) = Unit {0}

@@ -190,6 +190,14 @@ place b n (form.Header h l) =
 
 -- ---- all rows
 
+-- the statements of a block, where its last may end
+abbrev pub body : Block → Option Statements
+body b = and_then (λ done. Some (onto done x.end_of_statements)) (settled b.done b.last)
+
+-- the block around b, behind the end of b
+abbrev pub left : Frame → Block → Option Block
+left f b = and_then (λ ended. Some (put f.owner ended f.block)) (body b)
+
 abbrev pub above : List Frame → Placed → Option State
 above fs p = Some (record { inner = p.block; outer = fs; waiting = p.waiting })
 

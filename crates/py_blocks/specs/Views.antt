@@ -1,14 +1,21 @@
 -- No definition of the language: what `build` keeps, as the plain data of the machine.
-use Rattle.std.specs.Prelude.{ℕ, Bool, List, map, reverse, Option, Some, None, option_map}
+use Rattle.std.specs.Prelude.{◌≡◌, ◌<◌, ◌≤◌, ℕ, Bool, true, false, List, length, map, reverse, Option, Some, None, Result, Ok, Err}
 use Rattle.py_tree.specs.Syntax as x
 use Rattle.py_tree.specs.Syntax.{Statement}
 use Rattle.py_tree.specs.Joined.{expression_of, maybe_of, param_of, target_of, statement_of, statements_of, branch_of, clause_of}
 use Rattle.py_tree.specs.Lawful as lawful
+use Rattle.py_tree.specs.declared.code.Code.{Code}
+use Rattle.py_tree.specs.declared.code.Code.TheVariants.{BadIndentation, MisplacedForm, TooDeep}
+use Rattle.py_tree.specs.declared.fault.Stop.{Stop}
+use Rattle.py_tree.specs.declared.fault.Stop.TheVariants.{Fault, Memory}
 use Rattle.py_tree.specs.declared.statement.Stmt.{Stmt}
 use Rattle.py_tree.specs.declared.statement.Branch as branch
 use Rattle.py_tree.specs.declared.statement.Clause as clause
+use Rattle.py_blocks.specs.Rows.{Row}
 use Rattle.py_blocks.specs.Blocks as spec
 use Rattle.py_blocks.specs.Machine as machine
+use Rattle.py_blocks.specs.declared.builder.Builder.{Builder}
+use Rattle.py_blocks.specs.declared.builder.Frame.{Frame}
 use Rattle.py_blocks.specs.declared.context.Place.{Place}
 use Rattle.py_blocks.specs.declared.context.Context.{Context}
 use Rattle.py_blocks.specs.declared.context.Context.TheVariants as a_context
@@ -60,3 +67,24 @@ maybe_owner_of (Some o) = Some (owner_of o)
 
 abbrev pub placed_of : Placed → machine.Placed
 placed_of p = record { block = block_of p.block; waiting = maybe_owner_of p.waiting }
+
+abbrev pub frame_of : Frame → machine.Frame
+frame_of f = record { block = block_of f.block; owner = owner_of f.owner }
+
+abbrev pub frames_of : List Frame → List machine.Frame
+frames_of fs = reverse (map frame_of fs)
+
+abbrev pub state_of : Builder → machine.State
+state_of b = record { inner = block_of b.inner; outer = frames_of b.outer; waiting = maybe_owner_of b.waiting }
+
+-- why `read` stops at a row
+abbrev pub Stops : machine.State → Row → Code → Type 0
+Stops st t BadIndentation = machine.admits st t.indent ≡ false
+Stops st t MisplacedForm = (machine.admits st t.indent ≡ true) × (machine.step st t ≡ None)
+Stops st t TooDeep = (machine.admits st t.indent ≡ true) × (to : machine.State) × (machine.step st t ≡ Some to) × (100 < length to.outer)
+Stops st t code = ⊥
+
+abbrev pub ReadsRow : machine.State → Row → Result Builder Stop → Type 0
+ReadsRow st t (Ok next) = (machine.step st t ≡ Some (state_of next)) × (length (state_of next).outer ≤ 100)
+ReadsRow st t (Err (Fault f)) = (f.line ≡ t.line) × Stops st t f.code
+ReadsRow st t (Err (Memory error)) = Unit {0}
