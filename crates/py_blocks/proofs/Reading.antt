@@ -3,7 +3,7 @@ use Rattle.std.proofs.Common.{◌≡◌, ◌<◌, ◌≤◌, ◌+◌, ℕ, zero,
 use Rattle.std.specs.List.{last_or}
 use Rattle.std.proofs.lemmas.List.{reverse-append, map-append}
 use Rattle.std.proofs.lemmas.Bool.{and_from}
-use Rattle.py_tree.specs.Syntax.{Statements}
+use Rattle.py_tree.specs.Syntax.{Statements, end_of_statements}
 use Rattle.py_tree.specs.Joined.{module_of, statements_of}
 use Rattle.py_tree.specs.Lawful.{all_stand, lawful, module_level}
 use Rattle.py_tree.specs.Literals.{statements_fit}
@@ -103,7 +103,11 @@ unfinished rows left st line s e f = go rows (subst (λ r. Read r st) same s.rea
     same : s.before ≡ rows
     same = whole rows left st line s e
     go : (r : Rows) → Read r st → ((t : Row) → last_or None r ≡ Some t → line ≡ t.line) → FaultIn r line MisplacedForm
-    go [] read last = ?start
+    go [] read last =
+        let e : Some start ≡ Some st = read.runs in
+        let is : start ≡ st = cc in
+        let no : None ≡ Some end_of_statements = f ∙ ap finish (sym is) in
+        absurd cc
     go (a ∷ r) read last =
         let l = some_last a r in
         subst (λ n. FaultIn (a ∷ r) n MisplacedForm) (sym (last l.0 l.1)) (end_fault (a ∷ r) l.0 st read (sym f) l.1)

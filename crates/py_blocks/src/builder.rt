@@ -159,7 +159,6 @@ fn place_back(
     place_in(alloc, row, outer, inner)
 }
 
-#[tactic(none)]
 /// The ends of all blocks.
 fn close(alloc: Global, mut outer: Frames, mut inner: Block) -> Result<Option<Stmts>, AllocError>
     ensures { IfOk result (λ body. option_map statements_of body ≡ machine.close (frames_of outer) (block_of inner)) }

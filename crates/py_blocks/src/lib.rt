@@ -2,10 +2,8 @@
 #![tactic(auto)]
 
 mod builder;
-mod building;
 mod context;
 pub mod form_line;
 mod open_block;
 mod placing;
 
-pub use building::{build, one_module};

@@ -1,4 +1,5 @@
 use Rattle.std.proofs.Common.{◌≡◌, ◌∷◌, [], IfOk, Some, None, nat_eq, option_map, true, false, refl, sym, ap, subst, ◌∙◌, rules}
+use Rattle.std.proofs.lemmas.Bool.{ne_eqb}
 use Rattle.py_blocks.specs.Machine as machine
 use Rattle.py_blocks.specs.Rows.{row_of}
 use Rattle.py_blocks.specs.Views.{block_of, frame_of, frames_of, state_of}
@@ -10,13 +11,13 @@ loop-inner-init c = refl
 
 pub returns-in_default : goal.returns-in_default
 returns-in_default c =
-    let other : nat_eq c.loop-inner.inner.indent c.args.row.indent ≡ false = search (rules, c.loop-inner-test.true) in
+    let other : nat_eq c.loop-inner.inner.indent c.args.row.indent ≡ false = ne_eqb c.loop-inner.inner.indent c.args.row.indent c.loop-inner-test.true in
     let none : frames_of c.loop-inner.outer ≡ [] = search rules in
     back_end (row_of c.args.row) (frames_of c.loop-inner.outer) (block_of c.loop-inner.inner) none other ∙ c.loop-inner.invariant
 
 pub returns-in_default-2 : goal.returns-in_default-2
 returns-in_default-2 c =
-    let other : nat_eq c.loop-inner.inner.indent c.args.row.indent ≡ false = search (rules, c.loop-inner-test.true) in
+    let other : nat_eq c.loop-inner.inner.indent c.args.row.indent ≡ false = ne_eqb c.loop-inner.inner.indent c.args.row.indent c.loop-inner-test.true in
     let some : frames_of c.loop-inner.outer ≡ frame_of c.in-Some.frame ∷ frames_of c.take_frame.new.outer = search rules in
     back_leaves (row_of c.args.row) (frames_of c.loop-inner.outer) (frames_of c.take_frame.new.outer) (frame_of c.in-Some.frame) (block_of c.loop-inner.inner) some other
         (ap (option_map block_of) (sym c.in_default-2.is) ∙ c.in_ok-block.ensures)
@@ -29,7 +30,7 @@ loop-inner-smaller c =
 
 pub loop-inner-preserved : goal.loop-inner-preserved
 loop-inner-preserved c =
-    let other : nat_eq c.loop-inner.inner.indent c.args.row.indent ≡ false = search (rules, c.loop-inner-test.true) in
+    let other : nat_eq c.loop-inner.inner.indent c.args.row.indent ≡ false = ne_eqb c.loop-inner.inner.indent c.args.row.indent c.loop-inner-test.true in
     let some : frames_of c.loop-inner.outer ≡ frame_of c.in-Some.frame ∷ frames_of c.take_frame.new.outer = search rules in
     back_goes (row_of c.args.row) (frames_of c.loop-inner.outer) (frames_of c.take_frame.new.outer) (frame_of c.in-Some.frame) (block_of c.loop-inner.inner) (block_of c.in-Some-2.block) some other
         (ap (option_map block_of) (sym c.in-Some-2.is) ∙ c.in_ok-block.ensures)
