@@ -1,7 +1,5 @@
 ghost use Rattle.std.specs.Prelude.{◌≡◌, IfOk, reverse};
-ghost use Rattle.py_tree.specs.Syntax.{Statements};
 ghost use Rattle.py_blocks.specs.Answers.{Exact, Lawful, Right};
-ghost use Rattle.py_blocks.specs.Blocks.{ModuleAt, Rows};
 ghost use Rattle.py_blocks.specs.Rows.{row_of, rows_of};
 ghost use Rattle.py_blocks.specs.Views.{ReadsRow, state_of};
 
@@ -75,8 +73,3 @@ fn last_first(alloc: Global, mut forms: FormLines) -> Result<FormLines, AllocErr
     }
     Ok(turned)
 }
-
-/// The law of blocks: rows spell at most one module.
-pub fn one_module()
-    ensures { (rows : Rows) (a b : Statements) → ModuleAt rows a → ModuleAt rows b → a ≡ b }
-{}

@@ -4,6 +4,6 @@
 mod builder;
 mod context;
 pub mod form_line;
+pub mod laws;
 mod open_block;
 mod placing;
-
