@@ -111,3 +111,9 @@ close_leaves fs rest f b e none = sym (close_off f rest b none) ∙ ap (λ y. cl
 
 pub close_goes : (fs rest : List machine.Frame) (f : machine.Frame) (b c : machine.Block) → fs ≡ f ∷ rest → Some c ≡ left f b → close rest c ≡ close fs b
 close_goes fs rest f b c e some = sym (close_on f rest b c some) ∙ ap (λ y. close y b) (sym e)
+
+pub step_below : (st : machine.State) (t : Row) (o : machine.Owner) → st.waiting ≡ Some o → machine.below_head t st.outer st.inner o ≡ machine.step st t
+step_below st t o e = ap (machine.place_waiting t st.outer st.inner) (sym e)
+
+pub step_back : (st : machine.State) (t : Row) → st.waiting ≡ None → place_back t st.outer st.inner ≡ machine.step st t
+step_back st t e = ap (machine.place_waiting t st.outer st.inner) (sym e)

@@ -78,15 +78,10 @@ impl Builder {
     pub fn finish(self, alloc: Global) -> Result<Option<Stmts>, AllocError>
         ensures { IfOk result (λ body. option_map statements_of body ≡ machine.finish (state_of self)) }
     {
-        let Builder {
-            inner,
-            outer,
-            waiting,
-        } = self;
-        match waiting {
-            Some(_) => Ok(None),
-            None => close(alloc, outer, inner),
+        if self.waiting.is_some() {
+            return Ok(None);
         }
+        close(alloc, self.outer, self.inner)
     }
 }
 
