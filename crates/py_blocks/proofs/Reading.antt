@@ -18,7 +18,7 @@ use Rattle.py_blocks.specs.Faults.{FaultIn}
 use Rattle.py_blocks.specs.Fits.{forms_fit}
 use Rattle.py_blocks.specs.Answers.{Right, Lawful}
 use Rattle.py_blocks.specs.Machine.{State, step, finish, start}
-use Rattle.py_blocks.specs.Views.{Stops}
+use Rattle.py_blocks.specs.Views.{Stops, ReadsRow}
 use Rattle.py_blocks.specs.declared.form_line.FormLine.{FormLine}
 use Rattle.py_blocks.proofs.Answering.{Read, read_none, read_next, Faulty, indentation_fault, place_fault, level_fault, fault_in, all_read, end_fault}
 use Rattle.py_blocks.proofs.Standing.{module_stands, module_fits}
@@ -30,14 +30,10 @@ pub record SoFar (rows : Rows) (left : List FormLine) (st : State) (line : ℕ) 
   pub read : Read before st
   pub last : (t : Row) → last_or None before ≡ Some t → line ≡ t.line
 
-reverse_reverse : {A : Type 0} (xs : List A) → reverse (reverse xs) ≡ xs
-reverse_reverse [] = refl
-reverse_reverse (a ∷ xs) = ap reverse (reverse-append (a ∷ []) xs) ∙ reverse-append (reverse xs) (a ∷ []) ∙ ap (λ ys. a ∷ ys) (reverse_reverse xs)
-
-pub at_first : (forms turned : List FormLine) (st : State) (line : ℕ) → turned ≡ reverse forms → st ≡ start → SoFar (rows_of forms) turned st line
-at_first forms turned st line e s = record
+pub at_first : (left : List FormLine) (st : State) (line : ℕ) → st ≡ start → SoFar (rows_of (reverse left)) left st line
+at_first left st line s = record
   { before = []
-  ; join = ap rows_of (ap reverse e ∙ reverse_reverse forms)
+  ; join = refl
   ; read = subst (Read []) (sym s) read_none
   ; last = λ t e. absurd cc
   }
@@ -83,6 +79,11 @@ stopped rows all left f st line at code s e same why =
     let join : s.before ++ row_of f ∷ rows_of (reverse left) ≡ rows = ap (λ r. s.before ++ r) (sym (ap (λ l. rows_of (reverse l)) e ∙ reverse_last left f)) ∙ s.join in
     subst (λ n. FaultIn rows n code) (sym same) (faulty_row rows s.before (rows_of (reverse left)) (row_of f) code join (stops s.before (row_of f) st code s.read why))
 
+pub stopped_there : (rows : Rows) (all left : List FormLine) (f : FormLine) (st : State) (line : ℕ) (stop : Stop) → SoFar rows all st line → all ≡ left ++ f ∷ []
+    → ReadsRow st (row_of f) (Err stop) → Right rows (Err stop)
+stopped_there rows all left f st line (Fault fault) s e why = stopped rows all left f st line fault.line fault.code s e why.0 why.1
+stopped_there rows all left f st line (Memory error) s e why = tt
+
 nil_right : (rows : Rows) → rows ++ [] ≡ rows
 nil_right [] = refl
 nil_right (t ∷ rows) = ap (λ s. t ∷ s) (nil_right rows)
@@ -116,3 +117,10 @@ pub right_lawful : (rows : Rows) (answer : Result Module Stop) → Right rows an
 right_lawful rows (Ok m) right =
     (module_stands rows (module_of m) right.0, λ fit. and_from (all_stand module_level (module_of m)) (statements_fit (module_of m)) (module_stands rows (module_of m) right.0) (module_fits rows (module_of m) right.0 fit))
 right_lawful rows (Err stop) right = tt
+
+reverse_reverse : {A : Type 0} (xs : List A) → reverse (reverse xs) ≡ xs
+reverse_reverse [] = refl
+reverse_reverse (a ∷ xs) = ap reverse (reverse-append (a ∷ []) xs) ∙ reverse-append (reverse xs) (a ∷ []) ∙ ap (λ ys. a ∷ ys) (reverse_reverse xs)
+
+pub right_forms : (forms left : List FormLine) (answer : Result Module Stop) → left ≡ reverse forms → Right (rows_of (reverse left)) answer → Right (rows_of forms) answer
+right_forms forms left answer e right = subst (λ fs. Right (rows_of fs) answer) (ap reverse e ∙ reverse_reverse forms) right

@@ -19,6 +19,14 @@ pub(crate) struct Frame {
     owner: Owner,
 }
 
+impl Frame {
+    fn is_at(&self, indent: u32) -> bool
+        ensures { result ≡ nat_eq self.now.block.indent indent }
+    {
+        self.block.indent == indent
+    }
+}
+
 /// The outer blocks, the outermost first.
 pub(crate) type Frames = Items<Frame>;
 
@@ -48,7 +56,7 @@ impl Builder {
     {
         match self.waiting {
             Some(_) => self.inner.indent < indent,
-            None => self.inner.indent == indent || has_indent(self.outer.as_slice(), indent),
+            None => self.inner.indent == indent || has_indent(&self.outer, indent),
         }
     }
 
@@ -85,10 +93,17 @@ impl Builder {
     }
 }
 
-fn has_indent(frames: &[Frame], indent: u32) -> bool
-    ensures { result ≡ list_any (λ f. nat_eq f.block.indent indent) (frames_of frames.now) }
+/// Whether an outer block has that indentation.
+fn has_indent(outer: &Frames, indent: u32) -> bool
+    ensures { result ≡ list_any (λ f. nat_eq f.block.indent indent) (frames_of outer.now) }
 {
-    frames.iter().any(|frame| frame.block.indent == indent)
+    any_at(outer.as_slice(), indent)
+}
+
+fn any_at(frames: &[Frame], indent: u32) -> bool
+    ensures { result ≡ list_any (λ f. nat_eq f.block.indent indent) frames.now }
+{
+    frames.iter().any(|frame| frame.is_at(indent))
 }
 
 /// A row in a block of its indentation.

@@ -2,6 +2,7 @@
 #![tactic(auto)]
 
 mod builder;
+pub mod building;
 mod context;
 pub mod form_line;
 pub mod laws;

@@ -5,5 +5,5 @@ use Rattle.py_blocks.proofs.builder.has_indent.Goals as goal
 
 pub returns : goal.returns
 returns c =
-    let found : c.any.result ≡ list_any (λ f. nat_eq f.block.indent c.args.indent) c.args.frames.now = search rules in
-    found ∙ any_frame c.args.frames.now c.args.indent
+    let found : c.any_at.result ≡ list_any (λ f. nat_eq f.block.indent c.args.indent) c.args.outer.now = search rules in
+    found ∙ any_frame c.args.outer.now c.args.indent
