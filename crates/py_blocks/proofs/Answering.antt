@@ -1,5 +1,5 @@
 -- What the answers say, over plain variables.
-use Rattle.std.proofs.Common.{◌≡◌, ◌<◌, ◌≤◌, ◌+◌, ℕ, Bool, true, false, List, [], ◌∷◌, ◌++◌, take, slice_get, length, Option, Some, None, Result, Ok, Err, ◌⊎◌, inl, inr, refl, sym, ap, subst, ◌∙◌, arith}
+use Rattle.std.proofs.Common.{◌≡◌, ◌<◌, ◌≤◌, ℕ, true, false, [], ◌∷◌, ◌++◌, take, slice_get, length, Option, Some, None, Result, Ok, Err, ◌⊎◌, inl, inr, refl, sym, ap, subst, ◌∙◌, arith}
 use Rattle.std.specs.List.{last_or}
 use Rattle.std.proofs.lemmas.Bool.{cases_order, both_ways}
 use Rattle.py_tree.specs.Syntax.{Statements}
@@ -12,11 +12,11 @@ use Rattle.py_tree.specs.declared.statement.Module.{Module}
 use Rattle.py_blocks.specs.Rows.{Row}
 use Rattle.py_blocks.specs.Blocks.{Rows, ModuleAt}
 use Rattle.py_blocks.specs.Faults.{level, indent_stands, Shallow, Begins, Starts, Refused, bad_indentation, misplaced, too_deep, FaultIn, at_row, at_end}
-use Rattle.py_blocks.specs.Answers.{Right, Exact, GivesModule, GivesFault}
+use Rattle.py_blocks.specs.Answers.{Right, Exact}
 use Rattle.py_blocks.specs.Machine.{State, and_then, step, run, finish, start, admits}
 use Rattle.py_blocks.proofs.Complete.{reads, at_most_one}
 use Rattle.py_blocks.proofs.Begins.{spelled, begun, not_begun, run_append}
-use Rattle.py_blocks.proofs.Levels.{Shows, none_yet, some_rows, shows_next, shows_sorted, stepped, level_is, admits_is}
+use Rattle.py_blocks.proofs.Levels.{Shows, none_yet, shows_next, shows_sorted, stepped, level_is, admits_is}
 use Rattle.py_blocks.proofs.Fronts.{nil_right, shallow_none, shallow_next, shallow_whole, starts_front, cut, cut_before}
 
 -- ---- the fault of rows is one, and they spell no module

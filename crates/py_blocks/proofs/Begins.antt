@@ -1,13 +1,13 @@
 -- Which rows begin a module: those that the machine reads.
-use Rattle.std.proofs.Common.{◌≡◌, ◌<◌, ◌+◌, ℕ, Bool, true, List, [], ◌∷◌, ◌++◌, Option, Some, None, refl, sym, ap, subst, ◌∙◌, arith}
+use Rattle.std.proofs.Common.{◌≡◌, ◌+◌, ℕ, true, List, [], ◌∷◌, ◌++◌, Option, Some, None, refl, sym, ap, subst, ◌∙◌, arith}
 use Rattle.py_tree.specs.Syntax as x
 use Rattle.py_tree.specs.Syntax.{Statement, Statements}
 use Rattle.py_tree.specs.Lawful.{module_level}
 use Rattle.py_expr.specs.Forms as form
 use Rattle.py_blocks.specs.Blocks.{Rows, row, Context, Code, ClassFront, ClassRest, StatementsAt, BodyAt, ModuleAt, simple_stands, no_statement, a_simple, beside, below, no_elif, last_clause}
 use Rattle.py_blocks.specs.Faults.{Begins}
-use Rattle.py_blocks.specs.Machine.{Owner, Last, Whole, OpenIf, OpenTry, Block, Frame, State, onto, branches_onto, clauses_onto, alone, inside, claused, put, and_then, step, run, finish, start}
-use Rattle.py_blocks.proofs.Remains.{Ends, Handlers, no_more, more, Tail, TailOf, Owned, Then, Up, Completes}
+use Rattle.py_blocks.specs.Machine.{Owner, Last, Whole, OpenIf, OpenTry, Frame, State, onto, branches_onto, clauses_onto, alone, inside, claused, put, and_then, step, run, finish, start}
+use Rattle.py_blocks.proofs.Remains.{Ends, no_more, more, Tail, Up, Completes}
 use Rattle.py_blocks.proofs.Complete.{reads}
 use Rattle.py_blocks.proofs.Sound.{RunBack, run_back, FinishBack, finish_back}
 

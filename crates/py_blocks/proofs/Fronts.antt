@@ -1,9 +1,8 @@
 -- The first rows of rows.
-use Rattle.std.proofs.Common.{◌≡◌, ◌<◌, ◌≤◌, ◌+◌, ℕ, zero, suc, List, [], ◌∷◌, ◌++◌, take, slice_get, length, Option, Some, None, ◌⊎◌, inl, inr, refl, sym, ap, subst, ◌∙◌, arith, append_assoc}
-use Rattle.py_tree.specs.Syntax.{Statements}
+use Rattle.std.proofs.Common.{◌≡◌, ◌<◌, ◌≤◌, ℕ, zero, suc, [], ◌∷◌, ◌++◌, take, slice_get, length, Some, ◌⊎◌, inl, inr, refl, sym, ap, subst, arith, append_assoc}
 use Rattle.py_blocks.specs.Rows.{Row}
 use Rattle.py_blocks.specs.Blocks.{Rows, ModuleAt}
-use Rattle.py_blocks.specs.Faults.{level, Shallow, Begins, Starts}
+use Rattle.py_blocks.specs.Faults.{level, Shallow, Starts}
 
 pub nil_right : (rows : Rows) → rows ++ [] ≡ rows
 nil_right [] = refl

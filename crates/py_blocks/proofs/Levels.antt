@@ -1,8 +1,7 @@
 -- What the machine's state shows of the indentations and levels of the rows that it read.
-use Rattle.std.proofs.Common.{◌≡◌, ◌<◌, ◌≤◌, ◌+◌, ◌-◌, ℕ, Bool, true, false, ◌&&◌, ◌||◌, cond, List, [], ◌∷◌, ◌++◌, map, filter, length, Option, Some, None, is_some, refl, sym, ap, subst, ◌∙◌, arith, eqb-true, eq-eqb, ltb-true, lt-ltb, le-ltb, if◌then◌else◌, nat_eq, nat_lt}
+use Rattle.std.proofs.Common.{◌≡◌, ◌<◌, ◌≤◌, ◌+◌, ℕ, Bool, true, false, ◌&&◌, ◌||◌, cond, List, [], ◌∷◌, ◌++◌, map, filter, length, Option, Some, None, is_some, refl, sym, ap, subst, ◌∙◌, arith, eqb-true, eq-eqb, ltb-true, lt-ltb, le-ltb, if◌then◌else◌, nat_eq, nat_lt}
 use Rattle.std.specs.List.{list_all, list_any, last_or}
 use Rattle.std.proofs.lemmas.List.{length-map}
-use Rattle.std.proofs.lemmas.List.Elements.{filter-append}
 use Rattle.py_tree.specs.Syntax as x
 use Rattle.py_tree.specs.Syntax.{Kind, Statement, Statements}
 use Rattle.py_expr.specs.Forms as form
@@ -10,7 +9,7 @@ use Rattle.py_expr.specs.Forms.{Form, Head}
 use Rattle.py_blocks.specs.Rows.{Row}
 use Rattle.py_blocks.specs.Blocks.{Rows, Context, behind, simple_stands}
 use Rattle.py_blocks.specs.Faults.{enclosing, level, wants_block, indent_stands}
-use Rattle.py_blocks.specs.Machine.{Owner, Last, Block, Frame, State, Placed, onto, alone, inside, fresh, put, settled, starts, started, continued, head_stands, and_then, beside_head, begin, place, placed, above, place_in, place_back, below_head, place_waiting, step, start, admits, admits_in}
+use Rattle.py_blocks.specs.Machine.{Owner, Block, Frame, State, Placed, onto, alone, inside, fresh, put, settled, starts, started, continued, head_stands, and_then, beside_head, begin, place, above, place_in, place_back, below_head, place_waiting, step, start, admits, admits_in}
 use Rattle.py_blocks.proofs.Remains.{Sorted}
 use Rattle.py_blocks.proofs.Complete.{put_indent}
 

@@ -1,11 +1,11 @@
 -- The loop of `build`, over plain variables.
-use Rattle.std.proofs.Common.{◌≡◌, ◌<◌, ◌≤◌, ◌+◌, ℕ, zero, suc, true, List, [], ◌∷◌, ◌++◌, map, reverse, take, slice_get, length, Option, Some, None, Result, Ok, Err, refl, sym, ap, subst, ◌∙◌, append_assoc}
+use Rattle.std.proofs.Common.{◌≡◌, ◌≤◌, ℕ, List, [], ◌∷◌, ◌++◌, reverse, take, slice_get, length, Option, Some, None, Result, Ok, Err, refl, sym, ap, subst, ◌∙◌, append_assoc}
 use Rattle.std.specs.List.{last_or}
-use Rattle.std.proofs.lemmas.List.{reverse-append, map-append}
+use Rattle.std.proofs.lemmas.List.{reverse-append}
 use Rattle.std.proofs.lemmas.Bool.{and_from}
-use Rattle.py_tree.specs.Syntax.{Statements, end_of_statements}
-use Rattle.py_tree.specs.Joined.{module_of, statements_of}
-use Rattle.py_tree.specs.Lawful.{all_stand, lawful, module_level}
+use Rattle.py_tree.specs.Syntax.{end_of_statements}
+use Rattle.py_tree.specs.Joined.{module_of}
+use Rattle.py_tree.specs.Lawful.{all_stand, module_level}
 use Rattle.py_tree.specs.Literals.{statements_fit}
 use Rattle.py_tree.specs.declared.code.Code.{Code}
 use Rattle.py_tree.specs.declared.code.Code.TheVariants.{BadIndentation, MisplacedForm, TooDeep}
@@ -13,9 +13,8 @@ use Rattle.py_tree.specs.declared.fault.Stop.{Stop}
 use Rattle.py_tree.specs.declared.fault.Stop.TheVariants.{Fault, Memory}
 use Rattle.py_tree.specs.declared.statement.Module.{Module}
 use Rattle.py_blocks.specs.Rows.{Row, row_of, rows_of}
-use Rattle.py_blocks.specs.Blocks.{Rows, ModuleAt}
+use Rattle.py_blocks.specs.Blocks.{Rows}
 use Rattle.py_blocks.specs.Faults.{FaultIn}
-use Rattle.py_blocks.specs.Fits.{forms_fit}
 use Rattle.py_blocks.specs.Answers.{Right, Lawful}
 use Rattle.py_blocks.specs.Machine.{State, step, finish, start}
 use Rattle.py_blocks.specs.Views.{Stops, ReadsRow}
@@ -31,12 +30,12 @@ pub record SoFar (rows : Rows) (left : List FormLine) (st : State) (line : ℕ) 
   pub last : (t : Row) → last_or None before ≡ Some t → line ≡ t.line
 
 pub at_first : (left : List FormLine) (st : State) (line : ℕ) → st ≡ start → SoFar (rows_of (reverse left)) left st line
-at_first left st line s = record
-  { before = []
-  ; join = refl
-  ; read = subst (Read []) (sym s) read_none
-  ; last = λ t e. absurd cc
-  }
+at_first left st line s = record {
+  before = [];
+  join = refl;
+  read = subst (Read []) (sym s) read_none;
+  last = λ t e. absurd cc;
+}
 
 reverse_last : (left : List FormLine) (f : FormLine) → rows_of (reverse (left ++ f ∷ [])) ≡ row_of f ∷ rows_of (reverse left)
 reverse_last left f = ap rows_of (reverse-append left (f ∷ []))
@@ -47,12 +46,12 @@ last_is (a ∷ rows) o t = last_is rows (Some a) t
 
 pub further : (rows : Rows) (all left : List FormLine) (f : FormLine) (st to : State) (line : ℕ) → SoFar rows all st line → all ≡ left ++ f ∷ []
     → step st (row_of f) ≡ Some to → length to.outer ≤ 100 → SoFar rows left to f.line
-further rows all left f st to line s e h deep = record
-  { before = s.before ++ row_of f ∷ []
-  ; join = append_assoc s.before (row_of f ∷ []) (rows_of (reverse left)) ∙ ap (λ r. s.before ++ r) (sym (ap (λ l. rows_of (reverse l)) e ∙ reverse_last left f)) ∙ s.join
-  ; read = read_next s.before (row_of f) st to s.read h deep
-  ; last = λ t same. let is : Some (row_of f) ≡ Some t = sym (last_is s.before None (row_of f)) ∙ same in let row : row_of f ≡ t = cc in ap (λ u. u.line) row
-  }
+further rows all left f st to line s e h deep = record {
+  before = s.before ++ row_of f ∷ [];
+  join = append_assoc s.before (row_of f ∷ []) (rows_of (reverse left)) ∙ ap (λ r. s.before ++ r) (sym (ap (λ l. rows_of (reverse l)) e ∙ reverse_last left f)) ∙ s.join;
+  read = read_next s.before (row_of f) st to s.read h deep;
+  last = λ t same. let is : Some (row_of f) ≡ Some t = sym (last_is s.before None (row_of f)) ∙ same in let row : row_of f ≡ t = cc in ap (λ u. u.line) row;
+}
 
 stops : (rows : Rows) (t : Row) (st : State) (code : Code) → Read rows st → Stops st t code → Faulty rows t code
 stops rows t st BadIndentation r s = indentation_fault rows t st r s
@@ -71,7 +70,7 @@ get_before (a ∷ before) t s = get_before before t s
 faulty_row : (rows before s : Rows) (t : Row) (code : Code) → before ++ t ∷ s ≡ rows → Faulty before t code → FaultIn rows t.line code
 faulty_row rows before s t code join faulty =
     subst (λ r. FaultIn r t.line code) join
-        (fault_in (before ++ t ∷ s) (length before) t code (get_before before t s) (subst (λ r. Faulty r t code) (sym (take_before before (t ∷ s))) faulty))
+    (fault_in (before ++ t ∷ s) (length before) t code (get_before before t s) (subst (λ r. Faulty r t code) (sym (take_before before (t ∷ s))) faulty))
 
 pub stopped : (rows : Rows) (all left : List FormLine) (f : FormLine) (st : State) (line at : ℕ) (code : Code) → SoFar rows all st line → all ≡ left ++ f ∷ []
     → at ≡ f.line → Stops st (row_of f) code → FaultIn rows at code
@@ -103,6 +102,7 @@ unfinished rows left st line s e f = go rows (subst (λ r. Read r st) same s.rea
   where
     same : s.before ≡ rows
     same = whole rows left st line s e
+
     go : (r : Rows) → Read r st → ((t : Row) → last_or None r ≡ Some t → line ≡ t.line) → FaultIn r line MisplacedForm
     go [] read last =
         let e : Some start ≡ Some st = read.runs in

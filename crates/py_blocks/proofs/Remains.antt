@@ -1,12 +1,11 @@
 -- What the rows that are still to come spell, in a state of the machine.
-use Rattle.std.proofs.Common.{◌≡◌, ◌<◌, ℕ, Bool, true, List, [], ◌∷◌, Option, Some, None}
+use Rattle.std.proofs.Common.{◌≡◌, ◌<◌, ℕ, true, List, [], ◌∷◌, Option, Some, None}
 use Rattle.py_tree.specs.Syntax as x
 use Rattle.py_tree.specs.Syntax.{Statement, Statements, Branches, Clauses}
 use Rattle.py_expr.specs.Forms as form
 use Rattle.py_expr.specs.Forms.{Form}
-use Rattle.py_blocks.specs.Rows.{Row}
-use Rattle.py_blocks.specs.Blocks.{Rows, Context, StatementsAt, StatementAt, BodyAt, ElifsAt, ClausesAt}
-use Rattle.py_blocks.specs.Machine.{Owner, Last, Whole, OpenIf, OpenTry, Block, Frame, State, Placed, onto, branches_onto, clauses_onto, inside, claused, put, takes_clause, starts}
+use Rattle.py_blocks.specs.Blocks.{Rows, Context, StatementsAt, BodyAt, ElifsAt, ClausesAt}
+use Rattle.py_blocks.specs.Machine.{Owner, Last, Whole, OpenIf, OpenTry, Block, Frame, State, onto, branches_onto, clauses_onto, inside, claused, put, takes_clause, starts}
 
 -- behind `done`, up to the end of the block
 abbrev pub Ends : ℕ → Context → List Statement → Rows → Rows → Statements → Type 0

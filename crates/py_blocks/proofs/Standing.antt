@@ -1,5 +1,5 @@
 -- What rows spell is lawful.
-use Rattle.std.proofs.Common.{◌≡◌, ℕ, Bool, true, false, not, ◌&&◌, ◌||◌, List, [], ◌∷◌, Option, Some, None, ◌⊎◌, inl, inr, refl, sym, ap, subst, ◌∙◌}
+use Rattle.std.proofs.Common.{◌≡◌, ℕ, Bool, true, false, ◌&&◌, ◌||◌, List, [], ◌∷◌, Option, Some, None, ◌⊎◌, inl, inr, refl}
 use Rattle.std.proofs.lemmas.Bool.{and_parts, and_from, or_cases}
 use Rattle.py_tree.specs.Syntax as x
 use Rattle.py_tree.specs.Syntax.{Text, Expression, Kind, Statement, Statements, Branches, Clauses}
@@ -7,7 +7,7 @@ use Rattle.py_tree.specs.Lawful as lawful
 use Rattle.py_tree.specs.Lawful.{Place, module_level, function_level, stands, all_stand, branches_stand, clauses_stand, class_stands, members_stand, member_stands}
 use Rattle.py_tree.specs.Literals.{fits, maybe_fits, params_fit, target_fits, kind_fits, statements_fit, branches_fit, clauses_fit}
 use Rattle.py_expr.specs.Forms as form
-use Rattle.py_blocks.specs.Fits.{head_fits, form_fits, forms_fit}
+use Rattle.py_blocks.specs.Fits.{head_fits, forms_fit}
 use Rattle.py_blocks.specs.Blocks.{Rows, Context, Code, ClassFront, ClassRest, StatementsAt, StatementAt, BodyAt, ElifsAt, ClausesAt, ModuleAt, behind, in_a_loop, in_a_clause, is_simple, is_docstring, simple_stands, no_statement, a_statement, a_simple, an_if, a_while, a_for, a_try, a_def, a_class, beside, below, no_elif, an_else, an_elif, last_clause, a_clause}
 
 -- ---- statements stand where they may

@@ -7,7 +7,7 @@ use Rattle.py_tree.specs.Lawful.{module_level, function_level, may_define}
 use Rattle.py_expr.specs.Forms as form
 use Rattle.py_expr.specs.Forms.{Form, Head}
 use Rattle.py_blocks.specs.Rows.{Row}
-use Rattle.py_blocks.specs.Blocks.{Rows, Context, Code, ClassFront, ClassRest, behind, in_a_loop, in_a_clause, simple_stands, def_stands}
+use Rattle.py_blocks.specs.Blocks.{Rows, Context, Code, ClassFront, behind, in_a_loop, in_a_clause, simple_stands, def_stands}
 
 -- the newest first, and then the rest
 abbrev pub onto : List Statement → Statements → Statements

@@ -1,5 +1,5 @@
 -- No definition of the language: what `build` keeps, as the plain data of the machine.
-use Rattle.std.specs.Prelude.{◌≡◌, ◌<◌, ◌≤◌, ℕ, Bool, true, false, List, length, map, reverse, Option, Some, None, Result, Ok, Err}
+use Rattle.std.specs.Prelude.{◌≡◌, ◌<◌, ◌≤◌, true, false, List, length, map, reverse, Option, Some, None, Result, Ok, Err}
 use Rattle.py_tree.specs.Syntax as x
 use Rattle.py_tree.specs.Syntax.{Statement}
 use Rattle.py_tree.specs.Joined.{expression_of, maybe_of, param_of, target_of, statement_of, statements_of, branch_of, clause_of}

@@ -11,7 +11,7 @@ pub loop-frame-preserved : goal.loop-frame-preserved
 loop-frame-preserved c =
     let some : frames_of c.loop-frame.outer ≡ frame_of c.in-Some.frame ∷ frames_of c.take_frame.new.outer = search rules in
     close_goes (frames_of c.loop-frame.outer) (frames_of c.take_frame.new.outer) (frame_of c.in-Some.frame) (block_of c.loop-frame.inner) (block_of c.in-Some-2.block) some
-        (ap (option_map block_of) (sym c.in-Some-2.is) ∙ c.in_ok-block.ensures)
+    (ap (option_map block_of) (sym c.in-Some-2.is) ∙ c.in_ok-block.ensures)
     ∙ c.loop-frame.invariant
 
 pub loop-frame-smaller : goal.loop-frame-smaller
@@ -23,7 +23,7 @@ pub returns-in_default-2 : goal.returns-in_default-2
 returns-in_default-2 c =
     let some : frames_of c.loop-frame.outer ≡ frame_of c.in-Some.frame ∷ frames_of c.take_frame.new.outer = search rules in
     close_leaves (frames_of c.loop-frame.outer) (frames_of c.take_frame.new.outer) (frame_of c.in-Some.frame) (block_of c.loop-frame.inner) some
-        (ap (option_map block_of) (sym c.in_default-2.is) ∙ c.in_ok-block.ensures)
+    (ap (option_map block_of) (sym c.in_default-2.is) ∙ c.in_ok-block.ensures)
     ∙ c.loop-frame.invariant
 
 pub returns : goal.returns

@@ -1,5 +1,4 @@
 use Rattle.std.proofs.Common.{◌≡◌, IfOk, reverse, subst}
-use Rattle.py_blocks.specs.Answers.{Right}
 use Rattle.py_blocks.specs.Rows.{rows_of}
 use Rattle.py_blocks.proofs.Answering as answering
 use Rattle.py_blocks.proofs.Reading.{right_forms, right_lawful}

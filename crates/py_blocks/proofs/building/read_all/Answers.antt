@@ -1,4 +1,4 @@
-use Rattle.std.proofs.Common.{◌≡◌, ◌∷◌, ◌++◌, [], IfOk, Ok, Some, None, option_map, reverse, sym, ap, subst, ◌∙◌, rules}
+use Rattle.std.proofs.Common.{◌≡◌, ◌∷◌, ◌++◌, [], IfOk, option_map, reverse, sym, ap, subst, ◌∙◌, rules}
 use Rattle.py_tree.specs.Joined.{statements_of}
 use Rattle.py_blocks.specs.Machine as machine
 use Rattle.py_blocks.specs.Rows.{row_of, rows_of}

@@ -1,4 +1,4 @@
-use Rattle.std.proofs.Common.{◌≡◌, IfOk, Some, None, option_map, ap, subst}
+use Rattle.std.proofs.Common.{◌≡◌, IfOk, option_map, ap, subst}
 use Rattle.py_blocks.specs.Rows.{row_of}
 use Rattle.py_blocks.specs.Views.{maybe_owner_of, owner_of, state_of}
 use Rattle.py_blocks.proofs.Frames.{step_below, step_back}
