@@ -1,0 +1,11 @@
+pub mod Remains
+pub mod Complete
+pub mod Sound
+pub mod Begins
+pub mod Levels
+pub mod Fronts
+pub mod Answering
+pub mod Standing
+pub mod Whole
+pub mod Frames
+pub mod Reading
