@@ -8,3 +8,5 @@ pub mod form_line;
 pub mod laws;
 mod open_block;
 mod placing;
+#[cfg(test)]
+mod tests;
