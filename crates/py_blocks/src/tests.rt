@@ -4,7 +4,8 @@ use py_expr::form::{Form, Head};
 use py_tree::code::Code;
 use py_tree::expression::{Expr, Param, Params, Target};
 use py_tree::fault::Stop;
-use py_tree::statement::StmtKind;
+use py_tree::operator::BinaryOp;
+use py_tree::statement::{Imported, StmtKind};
 use py_tree::text::Text;
 use std::alloc::{AllocError, Global};
 use std::test::Fail;
@@ -30,8 +31,21 @@ fn simple(alloc: Global, text: &str) -> Result<Option<StmtKind>, AllocError> {
         "continue" => Some(StmtKind::Continue),
         "return" => Some(StmtKind::Return(None)),
         "raise" => Some(StmtKind::Raise(None)),
+        "raise-e" => Some(StmtKind::Raise(Some(Expr::Nil))),
+        "import" => Some(StmtKind::Import(Imported::new(alloc))),
         "text" => Some(StmtKind::Eval(Expr::Str(name(alloc)?))),
-        "field" => Some(StmtKind::Annotate(Target::Name(name(alloc)?), Expr::Nil, None)),
+        "e" => Some(StmtKind::Eval(Expr::Nil)),
+        _ => assigning(alloc, text)?,
+    })
+}
+
+fn assigning(alloc: Global, text: &str) -> Result<Option<StmtKind>, AllocError> {
+    let target = Target::Name(name(alloc)?);
+    Ok(match text {
+        "field" => Some(StmtKind::Annotate(target, Expr::Nil, None)),
+        "field-e" => Some(StmtKind::Annotate(target, Expr::Nil, Some(Expr::Nil))),
+        "assign" => Some(StmtKind::Assign(target, Expr::Nil)),
+        "augment" => Some(StmtKind::Augment(target, BinaryOp::Add, Expr::Nil)),
         _ => None,
     })
 }
@@ -164,6 +178,9 @@ fn takes_forms_where_they_may_stand(rt: HostRuntime) -> Result<(), Fail> {
         "if/ def pass/else/ class pass",
         "try/ def pass/except pass",
         "if/ if pass/elif pass",
+        "if pass/else pass",
+        "for pass/while/ if/  break",
+        "text/e/import/assign/augment/field-e/raise-e",
     ] {
         assert_eq!(rt; fault(rt.alloc(), text)?, None, "at {text}");
     }
@@ -180,20 +197,61 @@ fn refuses_the_first_form_that_may_not_stand(rt: HostRuntime) -> Result<(), Fail
         ("try pass/pass", 2),
         ("pass/if", 2),
         ("return", 1),
-        ("class/ return", 2),
         ("while pass/def/ break", 3),
         ("raise", 1),
         ("try pass/except/ def/  raise", 4),
         ("while/ def pass", 2),
-        ("class/ def pass", 2),
         ("class/ pass/ text", 3),
-        ("class/ if pass", 2),
-        ("class/ class pass", 2),
         ("break/ pass", 1),
     ] {
         assert_eq!(rt;
             fault(rt.alloc(), text)?,
             Some((line, Code::MisplacedForm)),
+            "at {text}"
+        );
+    }
+    Ok(())
+}
+
+#[test]
+fn a_class_takes_its_members_alone(rt: HostRuntime) -> Result<(), Fail> {
+    for text in [
+        "break",
+        "continue",
+        "return",
+        "raise",
+        "raise-e",
+        "import",
+        "e",
+        "field-e",
+        "assign",
+        "augment",
+        "if pass",
+        "elif pass",
+        "else pass",
+        "while pass",
+        "for pass",
+        "try pass",
+        "except pass",
+        "class pass",
+        "def pass",
+    ] {
+        let mut forms = FormLines::new(rt.alloc());
+        let class = form(rt.alloc(), "class")?;
+        forms.push(FormLine {
+            indent: 0,
+            line: 1,
+            form: class,
+        })?;
+        let member = form(rt.alloc(), text)?;
+        forms.push(FormLine {
+            indent: 4,
+            line: 2,
+            form: member,
+        })?;
+        assert_eq!(rt;
+            fault_of(rt.alloc(), forms)?,
+            Some((2, Code::MisplacedForm)),
             "at {text}"
         );
     }

@@ -1,11 +1,12 @@
 -- What is found of phrases, and of what has them in it.
-use Rattle.std.proofs.Common.{◌≡◌, ℕ, ◌∷◌, Option, Some, None, refl, sym, ap, subst, ◌∙◌, arith}
+use Rattle.std.proofs.Common.{◌≡◌, ℕ, Bool, false, ◌∷◌, Option, Some, None, is_some, refl, sym, ap, subst, ◌∙◌, arith}
 use Rattle.py_tree.specs.Syntax.{Text, Expression, Param}
 use Rattle.py_tree.specs.Nesting.{nesting}
 use Rattle.py_tree.specs.Joined.{expression_of, maybe_of, param_of}
 use Rattle.py_tree.specs.declared.expression.Param as tree
 use Rattle.py_tree.specs.declared.expression.Expr.{Expr}
 use Rattle.py_lexer.specs.declared.token.Token.TheVariants as token
+use Rattle.py_lexer.specs.declared.token.Mark.TheVariants as mark
 use Rattle.py_expr.specs.declared.phrase.Phrase.{Phrase}
 use Rattle.py_expr.specs.declared.phrase.Built.{Built}
 use Rattle.py_expr.specs.declared.phrase.Built.TheVariants.{Shallow, TooDeep}
@@ -19,6 +20,7 @@ use Rattle.py_expr.specs.Lines.{Annotation, Default, Parameter, Result}
 use Rattle.py_expr.specs.LineEnds.{Anything, EndsAnnotation, EndsParameter}
 use Rattle.py_expr.specs.Depth.{maybe_nesting, param_nesting}
 use Rattle.py_expr.specs.Readings.{Same, IsBuilt, FoundAt, IsFound, BeforeColon, built_on, both_built}
+use Rattle.py_expr.specs.Signatures.{IsParam, begins_default}
 use Rattle.py_expr.proofs.OneForm.{annotation_ends, parameter_ends, default_begins}
 use Rattle.py_expr.proofs.Builds.{one_front}
 
@@ -149,16 +151,28 @@ parameter_only m r q n k d x _ kinds defaults (l.a_parameter {m = y} {k = k'} {d
     let same_defaults : d ≡ d' = second.thing in
     record { thing = cc; rest = second.rest }
 
-pub parameter_found : (s m x r : Tokens) (n : Text) (kind default : Built (Option Expr)) (b : Built tree.Param) → s ≡ token.Name n ∷ m
-    → IsFound Annotation EndsAnnotation maybe_of maybe_nesting m kind x → IsFound Default EndsParameter maybe_of maybe_nesting x default r
+no_default_begins : (r : Tokens) → EndsParameter r → false ≡ begins_default r
+no_default_begins (token.Mark mark.Comma ∷ r) h = refl
+no_default_begins (token.Mark mark.RightParen ∷ r) h = refl
+no_default_begins r h = absurd h
+
+default_is : {s r : Tokens} {d : Option Expression} → Default s r d → EndsParameter r → is_some d ≡ begins_default s
+default_is {r = r} l.no_default h = no_default_begins r h
+default_is (l.a_default d) h = refl
+
+pub parameter_found : (s m x r : Tokens) (n : Text) (kind default : Built (Option Expr)) (b : Built tree.Param) (has_default : Bool) → s ≡ token.Name n ∷ m
+    → IsFound Annotation EndsAnnotation maybe_of maybe_nesting m kind x → IsFound Default EndsParameter maybe_of maybe_nesting x default r → has_default ≡ begins_default x
     → ((k d : Option Expression) → IsBuilt maybe_of maybe_nesting k kind → IsBuilt maybe_of maybe_nesting d default → IsBuilt param_of param_nesting (record { name = n; kind = k; default = d }) b)
-    → IsFound Parameter EndsParameter param_of param_nesting s b r
-parameter_found s m x r n kind default b h f g makes =
-    subst (λ y. IsFound Parameter EndsParameter param_of param_nesting y b r) (sym h) (record {
-      thing = record { name = n; kind = f.thing; default = g.thing };
-      stands = l.a_parameter f.stands g.stands;
-      only = λ q z d i. parameter_only m r q n f.thing g.thing x z f.only g.only d i;
-      is_built = makes f.thing g.thing f.is_built g.is_built;
+    → IsParam s b has_default r
+parameter_found s m x r n kind default b has_default h f g is makes =
+    subst (λ y. IsParam y b has_default r) (sym h) (record {
+      found = record {
+        thing = record { name = n; kind = f.thing; default = g.thing };
+        stands = l.a_parameter f.stands g.stands;
+        only = λ q z d i. parameter_only m r q n f.thing g.thing x z f.only g.only d i;
+        is_built = makes f.thing g.thing f.is_built g.is_built;
+      };
+      default = λ ends. default_is g.stands ends ∙ sym is;
     })
 
 pub no_kind : (s m : Tokens) (n : Text) → s ≡ token.Name n ∷ m → ((q : Tokens) (z : Option Expression) → Annotation m q z → EndsAnnotation q → ⊥) → (q : Tokens) (z : Param) → Parameter s q z → EndsParameter q → ⊥

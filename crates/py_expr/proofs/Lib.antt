@@ -4,6 +4,7 @@ pub mod WholeSound
 pub mod Builds
 pub mod Nested
 pub mod Names
+pub mod SeenNames
 pub mod Calling
 pub mod Reading
 pub mod Fronts
@@ -15,6 +16,7 @@ pub mod OneForm
 pub mod ForNames
 pub mod FoundAt
 pub mod Shorter
+pub mod Defaults
 pub mod ParameterLists
 pub mod BaseFacts
 pub mod NameLists
@@ -23,3 +25,7 @@ pub mod Wholes
 pub mod KindsOf
 pub mod MadeOfTwo
 pub mod SimpleLines
+pub mod Places
+pub mod Heads
+pub mod WholeLines
+pub mod LineAnswering

@@ -171,10 +171,10 @@ other_token h = cc
 no_as : {r q : Tokens} → t.colon ∷ r ≡ t.as_ ∷ q → ⊥
 no_as h = cc
 
-no_rest : {c : Token} {r : Tokens} → [] ≡ c ∷ r → ⊥
+pub no_rest : {c : Token} {r : Tokens} → [] ≡ c ∷ r → ⊥
 no_rest h = cc
 
-augmented_ends : {c : Token} {op : BinaryOp} (r : Tokens) → Augmented c op → IsEnd L (c ∷ r)
+pub augmented_ends : {c : Token} {op : BinaryOp} (r : Tokens) → Augmented c op → IsEnd L (c ∷ r)
 augmented_ends r l.plus_equal = tt
 augmented_ends r l.minus_equal = tt
 augmented_ends r l.star_equal = tt
@@ -247,21 +247,21 @@ augmented_one h l.double_slash_equal l.double_slash_equal = refl
 augmented_one h l.percent_equal l.percent_equal = refl
 augmented_one h u v = absurd cc
 
-no_equal : {c : Token} {op : BinaryOp} {r q : Tokens} → Augmented c op → t.equal ∷ r ≡ c ∷ q → ⊥
+pub no_equal : {c : Token} {op : BinaryOp} {r q : Tokens} → Augmented c op → t.equal ∷ r ≡ c ∷ q → ⊥
 no_equal l.plus_equal h = cc
 no_equal l.minus_equal h = cc
 no_equal l.star_equal h = cc
 no_equal l.double_slash_equal h = cc
 no_equal l.percent_equal h = cc
 
-no_colon : {c : Token} {op : BinaryOp} {r q : Tokens} → Augmented c op → t.colon ∷ r ≡ c ∷ q → ⊥
+pub no_colon : {c : Token} {op : BinaryOp} {r q : Tokens} → Augmented c op → t.colon ∷ r ≡ c ∷ q → ⊥
 no_colon l.plus_equal h = cc
 no_colon l.minus_equal h = cc
 no_colon l.star_equal h = cc
 no_colon l.double_slash_equal h = cc
 no_colon l.percent_equal h = cc
 
-colon_or_equal : {r q : Tokens} → t.colon ∷ r ≡ t.equal ∷ q → ⊥
+pub colon_or_equal : {r q : Tokens} → t.colon ∷ r ≡ t.equal ∷ q → ⊥
 colon_or_equal h = cc
 
 -- what a simple statement begins with: not with what begins a head
@@ -290,6 +290,12 @@ can_start (token.Word word.Except ∷ r) h = absurd h
 can_start (token.Word word.Def ∷ r) h = absurd h
 can_start (token.Word word.Class ∷ r) h = absurd h
 can_start r h = tt
+
+pub name_phrase : (n : Text) (s : Tokens) → Spells L (token.Name n ∷ s) s (syntax.Name n)
+name_phrase n s = g.single (primary_is g.a_name)
+
+pub attribute_phrase : (n a : Text) (s : Tokens) → Spells L (token.Name n ∷ t.dot ∷ token.Name a ∷ s) s (syntax.Attr (syntax.Name n) a)
+attribute_phrase n a s = g.single (primary_is (g.an_attribute g.a_name))
 
 module _ (one : OneFront) where
   pub one_assigned : (s r q : Tokens) (a b : Target) → Assigned s r a → IsEnd L r → Assigned s q b → IsEnd L q → Same a b r q
@@ -416,12 +422,6 @@ module _ (one : OneFront) where
   by_expression s e _ d (l.an_augmentation {m = m} {c = c} {g = a} u v i) = absurd (no_rest (one L s [] (c ∷ m) e (as_phrase a) d tt (place_is v) (augmented_ends m u)).rest)
   by_expression s e b d i = absurd (begins d)
 
-  name_phrase : (n : Text) (s : Tokens) → Spells L (token.Name n ∷ s) s (syntax.Name n)
-  name_phrase n s = g.single (primary_is g.a_name)
-
-  attribute_phrase : (n a : Text) (s : Tokens) → Spells L (token.Name n ∷ t.dot ∷ token.Name a ∷ s) s (syntax.Attr (syntax.Name n) a)
-  attribute_phrase n a s = g.single (primary_is (g.an_attribute g.a_name))
-
   by_assignment : (s m : Tokens) (a : Target) (e : Expression) (b : Kind) → Assigned s (t.equal ∷ m) a → Spells L m [] e → Simple s b → syntax.Assign a e ≡ b
   by_assignment s m a e _ u d (l.an_assignment {m = m'} {g = a'} {e = e'} v i) =
       let x = one_assigned s (t.equal ∷ m) (t.equal ∷ m') a a' u tt v tt in
@@ -496,7 +496,7 @@ module _ (one : OneFront) where
   -- ---- lines
 
   -- no simple statement begins as a head does, or is empty
-  no_simple : (s : Tokens) (a : Kind) → Simple s a → StartsSimple s
+  pub no_simple : (s : Tokens) (a : Kind) → Simple s a → StartsSimple s
   no_simple _ _ l.a_pass = tt
   no_simple _ _ l.a_break = tt
   no_simple _ _ l.a_continue = tt
@@ -512,7 +512,7 @@ module _ (one : OneFront) where
   no_simple _ _ (l.an_attribute_annotation d u) = tt
   no_simple s _ (l.an_augmentation k u d) = can_start s (begins (place_is u))
 
-  no_head : (s r : Tokens) (h : Head) (b : Kind) → HeadAt s r h → Simple s b → ⊥
+  pub no_head : (s r : Tokens) (h : Head) (b : Kind) → HeadAt s r h → Simple s b → ⊥
   no_head _ _ _ b (l.an_if d) i = no_simple _ _ i
   no_head _ _ _ b (l.an_elif d) i = no_simple _ _ i
   no_head _ _ _ b l.an_else i = no_simple _ _ i

@@ -8,6 +8,7 @@ use Rattle.py_tree.specs.Nesting.{nesting}
 use Rattle.py_tree.specs.Joined.{expression_of, target_of, kind_of}
 use Rattle.py_tree.specs.declared.expression.Expr.{Expr}
 use Rattle.py_tree.specs.declared.expression.Target as tree
+use Rattle.py_tree.specs.declared.expression.Target.TheVariants as target
 use Rattle.py_tree.specs.declared.operator.BinaryOp.{BinaryOp}
 use Rattle.py_tree.specs.declared.statement.Import.{Import}
 use Rattle.py_tree.specs.declared.statement.StmtKind as code
@@ -15,6 +16,7 @@ use Rattle.py_lexer.specs.declared.token.Token.{Token}
 use Rattle.py_lexer.specs.declared.token.Token.TheVariants as token
 use Rattle.py_lexer.specs.declared.token.Keyword.{Keyword}
 use Rattle.py_lexer.specs.declared.token.Keyword.TheVariants as word
+use Rattle.py_lexer.specs.declared.token.Mark.{Mark}
 use Rattle.py_lexer.specs.declared.token.Mark.TheVariants as mark
 use Rattle.py_expr.specs.declared.phrase.Phrase.{Phrase}
 use Rattle.py_expr.specs.declared.phrase.Built.{Built}
@@ -25,15 +27,15 @@ use Rattle.py_expr.specs.Ends.{IsEnd}
 use Rattle.py_expr.specs.Lines as l
 use Rattle.py_expr.specs.Lines.{Augmented, Place, Assigned, Simple, Taken}
 use Rattle.py_expr.specs.Depth.{target_nesting, kind_nesting}
-use Rattle.py_expr.specs.Phrases.{Is, IsTarget, IsExpression, BuildsTarget, BuildsExpression}
-use Rattle.py_expr.specs.Readings.{IsBuilt}
+use Rattle.py_expr.specs.Phrases.{Is, AtFront, IsExpression, BuildsExpression}
+use Rattle.py_expr.specs.Readings.{IsBuilt, both_built}
 use Rattle.py_expr.specs.ImportRuns.{AreImported, AreTaken}
 use Rattle.py_expr.specs.Statements as w
-use Rattle.py_expr.specs.Statements.{IsWhole, WholeAt, StatementAt, AllOfList, AllOfExpression, Annotated, annotation_of, annotation_nesting, IsLast, Makes, MakesOfBoth, Annotates, Augments, IsOther, IsPlain, HasNoWord, StatementBehind, is_place}
+use Rattle.py_expr.specs.Statements.{IsWhole, WholeAt, StatementAt, AllOfList, AllOfExpression, Annotated, annotation_of, annotation_nesting, IsLast, Makes, MakesOfBoth, PartsAt, Parts, Annotates, AnnotatesAt, FromAt, annotated_of, annotated_nesting, Augments, IsOther, IsPlain, HasNoWord, StatementBehind}
 use Rattle.py_expr.proofs.TargetPhrases.{as_phrase, place_is, assigned_is}
-use Rattle.py_expr.proofs.OneForm.{OneFront, begins, behind}
+use Rattle.py_expr.proofs.OneForm.{OneFront, begins, behind, augmented_ends, no_equal, no_colon, no_rest, colon_or_equal, name_phrase, attribute_phrase}
 use Rattle.py_expr.proofs.Builds.{one_front}
-use Rattle.py_expr.proofs.Wholes.{whole_under}
+use Rattle.py_expr.proofs.Wholes.{whole_under, both_are}
 use Rattle.py_expr.proofs.KindsOf.{pass_is, break_is, continue_is, return_is, raise_is, import_is, from_is}
 
 one : OneFront
@@ -126,49 +128,83 @@ no_import r o h are k d = at k d (subst (AreImported r) h are) where
   at _ (l.an_assignment u d) none = begins (assigned_is u)
   at _ (l.an_augmentation c u d) none = begins (place_is u)
 
-pub from_there : (s m r : Tokens) (n copy : Text) (is : List Import) (o : Option (List Import)) → s ≡ token.Name n ∷ m → m ≡ t.import_ ∷ r → copy ≡ n → o ≡ Some is → AreTaken r o → IsWhole Simple kind_of kind_nesting (t.from_ ∷ s) (Shallow (code.From copy is))
-from_there s m r n copy is o h k same e are =
-    record {
-      thing = x.From n is;
-      stands = subst (λ z. Simple (t.from_ ∷ z) (x.From n is)) (sym (h ∙ ap (λ z. token.Name n ∷ z) k)) (l.a_from (subst (AreTaken r) e are));
-      is_built = (omega arith, from_is copy is ∙ ap (λ z. x.From z is) same);
-    }
+pub module_there : (s r : Tokens) (n copy : Text) (is : List Import) (o : Option (List Import)) → s ≡ token.Name n ∷ t.import_ ∷ r → copy ≡ n → o ≡ Some is → AreTaken r o → FromAt s (Some (copy, is))
+module_there s r n copy is o h same e are = (r, h ∙ ap (λ z. token.Name z ∷ t.import_ ∷ r) (sym same), subst (AreTaken r) e are)
 
-pub no_from : (s : Tokens) → ((n : Text) (r : Tokens) (is : List Import) → s ≡ token.Name n ∷ t.import_ ∷ r → Taken r is → ⊥) → (k : Kind) → Simple (t.from_ ∷ s) k → ⊥
-no_from _ h _ (l.a_from {s = s} {n = n} {is = is} u) = h n s is refl u
-no_from s h _ (l.an_expression d) = begins d
-no_from s h _ (l.an_assignment u d) = begins (assigned_is u)
-no_from s h _ (l.an_augmentation c u d) = begins (place_is u)
+pub no_names_taken : (s r : Tokens) (n : Text) (o : Option (List Import)) → s ≡ token.Name n ∷ t.import_ ∷ r → o ≡ None → AreTaken r o → FromAt s None
+no_names_taken s r n o h e are n' q is i u = subst (AreTaken r) e are is (subst (λ z. Taken z is) (sym (ap (λ z. behind (behind z)) (sym h ∙ i))) u)
 
-pub no_taken : (s m r : Tokens) (n : Text) (o : Option (List Import)) → s ≡ token.Name n ∷ m → m ≡ t.import_ ∷ r → o ≡ None → AreTaken r o → (k : Kind) → Simple (t.from_ ∷ s) k → ⊥
-no_taken s m r n o h k e are = no_from s (λ n' q is i u.
-    let both : token.Name n ∷ t.import_ ∷ r ≡ token.Name n' ∷ t.import_ ∷ q = sym (h ∙ ap (λ z. token.Name n ∷ z) k) ∙ i in
-    subst (AreTaken r) e are is (subst (λ z. Taken z is) (sym (ap (λ z. behind (behind z)) both)) u))
+pub no_module : (s : Tokens) → ((n : Text) (r : Tokens) → s ≡ token.Name n ∷ t.import_ ∷ r → ⊥) → FromAt s None
+no_module s none n r is h u = none n r h
+
+pub from_there : (s : Tokens) (n : Text) (is : List Import) (o : Option (Text × List Import)) → o ≡ Some (n, is) → FromAt s o → IsWhole Simple kind_of kind_nesting (t.from_ ∷ s) (Shallow (code.From n is))
+from_there s n is o e are =
+    let there : FromAt s (Some (n, is)) = subst (FromAt s) e are in
+    record { thing = x.From n is; stands = subst (λ z. Simple (t.from_ ∷ z) (x.From n is)) (sym there.1) (l.a_from there.2); is_built = (omega arith, from_is n is) }
+
+pub no_from : (s : Tokens) (o : Option (Text × List Import)) → o ≡ None → FromAt s o → (k : Kind) → Simple (t.from_ ∷ s) k → ⊥
+no_from s o e are k d = at s k d (subst (FromAt s) e are) where
+  at : (s : Tokens) (k : Kind) → Simple (t.from_ ∷ s) k → FromAt s None → ⊥
+  at _ _ (l.a_from {s = s} {n = n} {is = is} u) h = h n s is refl u
+  at s _ (l.an_expression d) h = begins d
+  at s _ (l.an_assignment u d) h = begins (assigned_is u)
+  at s _ (l.an_augmentation c u d) h = begins (place_is u)
 
 -- ---- annotations
 
-pub name_annotation : (n copy : Text) (r : Tokens) (a : Built _) (k : Built _) → copy ≡ n → IsWhole Annotated annotation_of annotation_nesting r a → (target_nesting (x.ToName copy) ≤ 200 → Annotates (x.ToName copy) a k)
-    → IsWhole Simple kind_of kind_nesting (token.Name n ∷ t.colon ∷ r) k
-name_annotation n copy r a k same f makes = subst (λ z. IsWhole Simple kind_of kind_nesting (token.Name z ∷ t.colon ∷ r) k) same (at f.thing f.stands f.is_built) where
-  at : (y : _) → Annotated r y → IsBuilt annotation_of annotation_nesting y a → IsWhole Simple kind_of kind_nesting (token.Name copy ∷ t.colon ∷ r) k
-  at _ (w.annotated {k = kind} {v = v} d u) built = record { thing = x.Annotate (x.ToName copy) kind v; stands = l.an_annotation d u; is_built = makes (omega arith) kind v built }
+annotation_parts : (g : Target) (s : Tokens) (made : tree.Target) (o : Option (Built (Expr × Option Expr))) (a : Built (Expr × Option Expr)) (b : Built (tree.Target × (Expr × Option Expr))) → target_of made ≡ g → target_nesting g ≤ 200
+    → o ≡ Some a → WholeAt Annotated annotation_of annotation_nesting s o → b ≡ both_built (Shallow made) a → AnnotatesAt g s (Some b)
+annotation_parts g s made o a b same few h f is = subst (λ z. AnnotatesAt g s (Some z)) (sym is) (at f'.thing f'.stands f'.is_built) where
+  f' : IsWhole Annotated annotation_of annotation_nesting s a
+  f' = subst (WholeAt Annotated annotation_of annotation_nesting s) h f
 
-pub attribute_annotation : (n a copy other : Text) (r : Tokens) (c : Built _) (k : Built _) → copy ≡ n → other ≡ a → IsWhole Annotated annotation_of annotation_nesting r c
-    → (target_nesting (x.ToAttr (x.Name copy) other) ≤ 200 → Annotates (x.ToAttr (x.Name copy) other) c k) → IsWhole Simple kind_of kind_nesting (token.Name n ∷ t.dot ∷ token.Name a ∷ t.colon ∷ r) k
-attribute_annotation n a copy other r c k same same' f makes =
-    subst (λ z. IsWhole Simple kind_of kind_nesting (token.Name z ∷ t.dot ∷ token.Name a ∷ t.colon ∷ r) k) same
-    (subst (λ z. IsWhole Simple kind_of kind_nesting (token.Name copy ∷ t.dot ∷ token.Name z ∷ t.colon ∷ r) k) same' (at f.thing f.stands f.is_built)) where
-      at : (y : _) → Annotated r y → IsBuilt annotation_of annotation_nesting y c → IsWhole Simple kind_of kind_nesting (token.Name copy ∷ t.dot ∷ token.Name other ∷ t.colon ∷ r) k
-      at _ (w.annotated {k = kind} {v = v} d u) built = record { thing = x.Annotate (x.ToAttr (x.Name copy) other) kind v; stands = l.an_attribute_annotation d u; is_built = makes (omega arith) kind v built }
+  at : (y : Expression × Option Expression) → Annotated s y → IsBuilt annotation_of annotation_nesting y a → AnnotatesAt g s (Some (both_built (Shallow made) a))
+  at _ (w.annotated {k = k} {v = v} d u) built = (k, v, w.annotated d u, both_are target_of target_nesting annotation_of annotation_nesting g (k, v) (Shallow made) a (few, same) built)
+
+pub name_parts : (n copy : Text) (s : Tokens) (o : Option (Built (Expr × Option Expr))) (a : Built (Expr × Option Expr)) (b : Built (tree.Target × (Expr × Option Expr))) → copy ≡ n → o ≡ Some a → WholeAt Annotated annotation_of annotation_nesting s o
+    → b ≡ both_built (Shallow (target.Name copy)) a → AnnotatesAt (x.ToName n) s (Some b)
+name_parts n copy s o a b same h f is = annotation_parts (x.ToName n) s (target.Name copy) o a b (ap x.ToName same) (omega arith) h f is
+
+pub attribute_parts : (n m other : Text) (object : Expr) (s : Tokens) (o : Option (Built (Expr × Option Expr))) (a : Built (Expr × Option Expr)) (b : Built (tree.Target × (Expr × Option Expr))) → expression_of object ≡ x.Name n → other ≡ m → o ≡ Some a
+    → WholeAt Annotated annotation_of annotation_nesting s o → b ≡ both_built (Shallow (target.Attr object other)) a → AnnotatesAt (x.ToAttr (x.Name n) m) s (Some b)
+attribute_parts n m other object s o a b same same' h f is =
+    annotation_parts (x.ToAttr (x.Name n) m) s (target.Attr object other) o a b (ap (λ z. x.ToAttr z other) same ∙ ap (x.ToAttr (x.Name n)) same') (omega arith) h f is
+
+pub no_name_annotation : (n : Text) (r : Tokens) → ((y : Expression × Option Expression) → Annotated r y → ⊥) → (k : Kind) → Simple (token.Name n ∷ t.colon ∷ r) k → ⊥
+no_name_annotation n r none _ (l.an_annotation {k = k} {v = v} d u) = none (k, v) (w.annotated d u)
+no_name_annotation n r none _ (l.an_expression {e = e} d) = no_rest (one L (token.Name n ∷ t.colon ∷ r) [] (t.colon ∷ r) e (x.Name n) d tt (name_phrase n (t.colon ∷ r)) tt).rest
+no_name_annotation n r none _ (l.an_assignment {m = m} {g = g} u d) =
+    colon_or_equal (one L (token.Name n ∷ t.colon ∷ r) (t.colon ∷ r) (t.equal ∷ m) (x.Name n) (as_phrase g) (name_phrase n (t.colon ∷ r)) tt (assigned_is u) tt).rest
+no_name_annotation n r none _ (l.an_augmentation {m = m} {c = c} {g = g} c' u d) =
+    no_colon c' (one L (token.Name n ∷ t.colon ∷ r) (t.colon ∷ r) (c ∷ m) (x.Name n) (as_phrase g) (name_phrase n (t.colon ∷ r)) tt (place_is u) (augmented_ends m c')).rest
+
+pub no_attribute_annotation : (n a : Text) (r : Tokens) → ((y : Expression × Option Expression) → Annotated r y → ⊥) → (k : Kind) → Simple (token.Name n ∷ t.dot ∷ token.Name a ∷ t.colon ∷ r) k → ⊥
+no_attribute_annotation n a r none _ (l.an_attribute_annotation {k = k} {v = v} d u) = none (k, v) (w.annotated d u)
+no_attribute_annotation n a r none _ (l.an_expression {e = e} d) =
+    no_rest (one L (token.Name n ∷ t.dot ∷ token.Name a ∷ t.colon ∷ r) [] (t.colon ∷ r) e (x.Attr (x.Name n) a) d tt (attribute_phrase n a (t.colon ∷ r)) tt).rest
+no_attribute_annotation n a r none _ (l.an_assignment {m = m} {g = g} u d) =
+    colon_or_equal (one L (token.Name n ∷ t.dot ∷ token.Name a ∷ t.colon ∷ r) (t.colon ∷ r) (t.equal ∷ m) (x.Attr (x.Name n) a) (as_phrase g) (attribute_phrase n a (t.colon ∷ r)) tt (assigned_is u) tt).rest
+no_attribute_annotation n a r none _ (l.an_augmentation {m = m} {c = c} {g = g} c' u d) =
+    no_colon c' (one L (token.Name n ∷ t.dot ∷ token.Name a ∷ t.colon ∷ r) (t.colon ∷ r) (c ∷ m) (x.Attr (x.Name n) a) (as_phrase g) (attribute_phrase n a (t.colon ∷ r)) tt (place_is u) (augmented_ends m c')).rest
+
+pub name_annotated : (n : Text) (r : Tokens) (o : Option (Built _)) (b : Built _) (k : Built _) → o ≡ Some b → AnnotatesAt (x.ToName n) r o → Annotates b k → IsWhole Simple kind_of kind_nesting (token.Name n ∷ t.colon ∷ r) k
+name_annotated n r o b k h f makes =
+    let there : AnnotatesAt (x.ToName n) r (Some b) = subst (AnnotatesAt (x.ToName n) r) h f in
+    at there.0 there.1 there.2 there.3 where
+      at : (e : Expression) (v : Option Expression) → Annotated r (e, v) → IsBuilt annotated_of annotated_nesting (x.ToName n, (e, v)) b → IsWhole Simple kind_of kind_nesting (token.Name n ∷ t.colon ∷ r) k
+      at e v (w.annotated d u) built = record { thing = x.Annotate (x.ToName n) e v; stands = l.an_annotation d u; is_built = makes (x.ToName n) e v built }
+
+pub attribute_annotated : (n a : Text) (r : Tokens) (o : Option (Built _)) (b : Built _) (k : Built _) → o ≡ Some b → AnnotatesAt (x.ToAttr (x.Name n) a) r o → Annotates b k → IsWhole Simple kind_of kind_nesting (token.Name n ∷ t.dot ∷ token.Name a ∷ t.colon ∷ r) k
+attribute_annotated n a r o b k h f makes =
+    let there : AnnotatesAt (x.ToAttr (x.Name n) a) r (Some b) = subst (AnnotatesAt (x.ToAttr (x.Name n) a) r) h f in
+    at there.0 there.1 there.2 there.3 where
+      at : (e : Expression) (v : Option Expression) → Annotated r (e, v) → IsBuilt annotated_of annotated_nesting (x.ToAttr (x.Name n) a, (e, v)) b → IsWhole Simple kind_of kind_nesting (token.Name n ∷ t.dot ∷ token.Name a ∷ t.colon ∷ r) k
+      at e v (w.annotated d u) built = record { thing = x.Annotate (x.ToAttr (x.Name n) a) e v; stands = l.an_attribute_annotation d u; is_built = makes (x.ToAttr (x.Name n) a) e v built }
+
+pub not_annotated : (g : Target) (r : Tokens) (o : Option (Built _)) → o ≡ None → AnnotatesAt g r o → (y : Expression × Option Expression) → Annotated r y → ⊥
+not_annotated g r o h f = subst (AnnotatesAt g r) h f
 
 -- ---- what follows a phrase
-
-pub augmented_ends : {c : Token} {op : BinaryOp} (r : Tokens) → Augmented c op → IsEnd L (c ∷ r)
-augmented_ends r l.plus_equal = tt
-augmented_ends r l.minus_equal = tt
-augmented_ends r l.star_equal = tt
-augmented_ends r l.double_slash_equal = tt
-augmented_ends r l.percent_equal = tt
 
 -- a statement that begins with a phrase with r behind it
 data Follows (s r : Tokens) : Kind → Type 0 where
@@ -192,7 +228,7 @@ follows _ r e _ plain d i (l.a_from u) = absurd plain
 follows _ r e _ plain d i (l.an_annotation u v) = absurd plain
 follows _ r e _ plain d i (l.an_attribute_annotation u v) = absurd plain
 
-pub no_phrase : (s : Tokens) → IsPlain s → ((r : Tokens) (e : Expression) → Spells L s r e → IsEnd L r → ⊥) → (k : Kind) → Simple s k → ⊥
+no_phrase : (s : Tokens) → IsPlain s → ((r : Tokens) (e : Expression) → Spells L s r e → IsEnd L r → ⊥) → (k : Kind) → Simple s k → ⊥
 no_phrase s plain none _ (l.an_expression {e = e} d) = none [] e d tt
 no_phrase s plain none _ (l.an_assignment {m = m} {g = g} u d) = none (t.equal ∷ m) (as_phrase g) (assigned_is u) tt
 no_phrase s plain none _ (l.an_augmentation {m = m} {c = c} {g = g} c' u d) = none (c ∷ m) (as_phrase g) (place_is u) (augmented_ends m c')
@@ -226,38 +262,67 @@ nothing_behind s r e phrase plain is end equal mark' k d = at k (follows s r e k
 
 -- ---- assignments
 
--- the target that was built
-record TargetThere (s r : Tokens) (b : Built tree.Target) : Type 0 where
-  target : Target
-  stands : Assigned s r target
-  is_built : IsBuilt target_of target_nesting target b
-
-target_there : (s r : Tokens) (b : Built tree.Target) → IsTarget s r (Some b) → TargetThere s r b
-target_there s r (Shallow a) h = record { target = target_of a; stands = h.0; is_built = (h.1, refl) }
-target_there s r TooDeep h = record { target = h.0; stands = h.1; is_built = h.2 }
-
-no_equal : {c : Token} {op : BinaryOp} {r q : Tokens} → Augmented c op → t.equal ∷ r ≡ c ∷ q → ⊥
-no_equal l.plus_equal h = cc
-no_equal l.minus_equal h = cc
-no_equal l.star_equal h = cc
-no_equal l.double_slash_equal h = cc
-no_equal l.percent_equal h = cc
-
-pub assigned_there : (s m : Tokens) (e : Expression) (phrase : Phrase) (o : Option (Built tree.Target)) (b : Built tree.Target) (v : Built Expr) (k : Built _) → o ≡ Some b → BuildsTarget phrase o → Is phrase L s (t.equal ∷ m) e → IsWhole AllOfList expression_of nesting m v → MakesOfBoth x.Assign b v k
+pub assigned_there : (s m : Tokens) (e : Expression) (phrase : Phrase) (o : Option (Built (tree.Target × Expr))) (b : Built (tree.Target × Expr)) (k : Built _) → o ≡ Some b → Parts Assigned phrase m o → Is phrase L s (t.equal ∷ m) e → MakesOfBoth x.Assign b k
     → IsWhole Simple kind_of kind_nesting s k
-assigned_there s m e phrase o b v k h builds is f makes =
-    let there = target_there s (t.equal ∷ m) b (subst (IsTarget s (t.equal ∷ m)) h (builds s (t.equal ∷ m) e is)) in
-    record { thing = x.Assign there.target f.thing; stands = l.an_assignment there.stands f.stands; is_built = makes there.target f.thing there.is_built f.is_built }
+assigned_there s m e phrase o b k h parts is makes =
+    let there : PartsAt Assigned s (t.equal ∷ m) m (Some b) = subst (PartsAt Assigned s (t.equal ∷ m) m) h (parts s (t.equal ∷ m) e is) in
+    record { thing = x.Assign there.0 there.1; stands = l.an_assignment there.2 there.3; is_built = makes there.0 there.1 there.4 }
 
-pub no_assigned : (s m : Tokens) (e : Expression) (phrase : Phrase) → IsPlain s → Is phrase L s (t.equal ∷ m) e → ((g : Target) (v : Expression) → Assigned s (t.equal ∷ m) g → AllOfList m v → ⊥) → (k : Kind) → Simple s k → ⊥
+no_assigned : (s m : Tokens) (e : Expression) (phrase : Phrase) → IsPlain s → Is phrase L s (t.equal ∷ m) e → ((g : Target) (v : Expression) → Assigned s (t.equal ∷ m) g → AllOfList m v → ⊥) → (k : Kind) → Simple s k → ⊥
 no_assigned s m e phrase plain is none k d = at k (follows s (t.equal ∷ m) e k plain is.spells is.ends d) where
   at : (k : Kind) → Follows s (t.equal ∷ m) k → ⊥
   at _ (nothing_follows h) = absurd cc
   at _ (equal_follows {m = q} {g = g} {e = v} h u d) = none g v (subst (λ z. Assigned s z g) (sym h) u) (subst (λ z. Spells L z [] v) (sym (ap behind h)) d)
   at _ (mark_follows h c u d) = no_equal c h
 
-pub no_target : (s m : Tokens) (e : Expression) (phrase : Phrase) (o : Option (Built tree.Target)) → o ≡ None → BuildsTarget phrase o → IsPlain s → Is phrase L s (t.equal ∷ m) e → (k : Kind) → Simple s k → ⊥
-no_target s m e phrase o h builds plain is = no_assigned s m e phrase plain is (λ g v u d. subst (IsTarget s (t.equal ∷ m)) h (builds s (t.equal ∷ m) e is) g u)
+pub no_assignment : (s m : Tokens) (e : Expression) (phrase : Phrase) (o : Option (Built (tree.Target × Expr))) → o ≡ None → Parts Assigned phrase m o → IsPlain s → Is phrase L s (t.equal ∷ m) e → (k : Kind) → Simple s k → ⊥
+no_assignment s m e phrase o h parts plain is = no_assigned s m e phrase plain is (subst (PartsAt Assigned s (t.equal ∷ m) m) h (parts s (t.equal ∷ m) e is))
+
+-- ---- augmented assignments
+
+pub operator_there : (s r : Tokens) (m : Mark) (op : BinaryOp) → s ≡ token.Mark m ∷ r → Augmented (token.Mark m) op → Augments s op r
+operator_there s r m op h a = (token.Mark m, a, h)
+
+pub no_mark : (s : Tokens) → ((m : Mark) (r : Tokens) → s ≡ token.Mark m ∷ r → ⊥) → (op : BinaryOp) (r : Tokens) → Augments s op r → ⊥
+no_mark s none op r a = at a.0 op a.1 a.2 where
+  at : (c : Token) (op : BinaryOp) → Augmented c op → s ≡ c ∷ r → ⊥
+  at _ _ l.plus_equal h = none mark.PlusEqual r h
+  at _ _ l.minus_equal h = none mark.MinusEqual r h
+  at _ _ l.star_equal h = none mark.StarEqual r h
+  at _ _ l.double_slash_equal h = none mark.DoubleSlashEqual r h
+  at _ _ l.percent_equal h = none mark.PercentEqual r h
+
+pub no_operator : (s r : Tokens) (m : Mark) → s ≡ token.Mark m ∷ r → ((op : BinaryOp) → Augmented (token.Mark m) op → ⊥) → (op : BinaryOp) (q : Tokens) → Augments s op q → ⊥
+no_operator s r m h none op q a =
+    let both : a.0 ∷ q ≡ token.Mark m ∷ r = sym a.2 ∙ h in
+    let first : a.0 ≡ token.Mark m = cc in
+    none op (subst (λ z. Augmented z op) first a.1)
+
+pub augmented_there : (s r m : Tokens) (e : Expression) (op : BinaryOp) (phrase : Phrase) (o : Option (Built (tree.Target × Expr))) (b : Built (tree.Target × Expr)) (k : Built _) → Augments r op m → o ≡ Some b → Parts Place phrase m o → Is phrase L s r e
+    → MakesOfBoth (λ g e. x.Augment g op e) b k → IsWhole Simple kind_of kind_nesting s k
+augmented_there s r m e op phrase o b k a h parts is makes =
+    let there : PartsAt Place s r m (Some b) = subst (PartsAt Place s r m) h (parts s r e is) in
+    record { thing = x.Augment there.0 op there.1; stands = l.an_augmentation a.1 (subst (λ z. Place s z there.0) a.2 there.2) there.3; is_built = makes there.0 there.1 there.4 }
+
+no_augmented : (s r m : Tokens) (e : Expression) (op : BinaryOp) (phrase : Phrase) → IsPlain s → Augments r op m → Is phrase L s r e → ((g : Target) (v : Expression) → Place s r g → AllOfList m v → ⊥) → (k : Kind) → Simple s k → ⊥
+no_augmented s r m e op phrase plain a is none k d = at k (follows s r e k plain is.spells is.ends d) where
+  at : (k : Kind) → Follows s r k → ⊥
+  at _ (nothing_follows h) = no_rest (sym h ∙ a.2)
+  at _ (equal_follows h u d) = no_equal a.1 (sym h ∙ a.2)
+  at _ (mark_follows {m = q} {g = g} {e = v} h c u d) = none g v (subst (λ z. Place s z g) (sym h) u) (subst (λ z. Spells L z [] v) (ap behind (sym h ∙ a.2)) d)
+
+pub no_augmentation : (s r m : Tokens) (e : Expression) (op : BinaryOp) (phrase : Phrase) (o : Option (Built (tree.Target × Expr))) → o ≡ None → Parts Place phrase m o → IsPlain s → Augments r op m → Is phrase L s r e → (k : Kind) → Simple s k → ⊥
+no_augmentation s r m e op phrase o h parts plain a is = no_augmented s r m e op phrase plain a is (subst (PartsAt Place s r m) h (parts s r e is))
+
+-- ---- what follows the phrase
+
+pub equal_ok : (r m : Tokens) (phrase : Phrase) (k : Result (Option (Built _)) AllocError) → r ≡ t.equal ∷ m → IfOk k (StatementBehind phrase (t.equal ∷ m)) → IfOk k (StatementBehind phrase r)
+equal_ok r m phrase (Ok k) h f = subst (λ z. StatementBehind phrase z k) (sym h) f
+equal_ok r m phrase (Err e) h f = tt
+
+pub operator_ok : (r m : Tokens) (op : BinaryOp) (phrase : Phrase) (k : Result (Option (Built _)) AllocError) → Augments r op m → IfOk k (λ found. (q : Tokens) → Augments q op m → StatementBehind phrase q found) → IfOk k (StatementBehind phrase r)
+operator_ok r m op phrase (Ok k) a f = f r a
+operator_ok r m op phrase (Err e) a f = tt
 
 -- ---- what begins with no phrase's statement
 
@@ -286,3 +351,22 @@ plain_behind n m h k = tt
 
 pub plain_name : (s m : Tokens) (n : Text) → s ≡ token.Name n ∷ m → ((r : Tokens) → m ≡ t.colon ∷ r → ⊥) → ((a : Text) (r : Tokens) → m ≡ t.dot ∷ token.Name a ∷ t.colon ∷ r → ⊥) → IsPlain s
 plain_name s m n h k j = subst IsPlain (sym h) (plain_behind n m k j)
+
+-- ---- by what is at the front
+
+pub colon_ok : (s m r : Tokens) (n : Text) (o : Result _ AllocError) → s ≡ token.Name n ∷ m → m ≡ t.colon ∷ r → IfOk o (StatementAt (token.Name n ∷ t.colon ∷ r)) → IfOk o (StatementAt s)
+colon_ok s m r n (Ok o) h k d = subst (λ z. StatementAt z o) (sym (h ∙ ap (λ z. token.Name n ∷ z) k)) d
+colon_ok s m r n (Err f) h k d = tt
+
+pub attribute_ok : (s m r : Tokens) (n a : Text) (o : Result _ AllocError) → s ≡ token.Name n ∷ m → m ≡ t.dot ∷ token.Name a ∷ t.colon ∷ r → IfOk o (StatementAt (token.Name n ∷ t.dot ∷ token.Name a ∷ t.colon ∷ r)) → IfOk o (StatementAt s)
+attribute_ok s m r n a (Ok o) h k d = subst (λ z. StatementAt z o) (sym (h ∙ ap (λ z. token.Name n ∷ z) k)) d
+attribute_ok s m r n a (Err f) h k d = tt
+
+pub begun_ok : (s : Tokens) (o : Option Phrase) (phrase : Phrase) (k : Result _ AllocError) → o ≡ Some phrase → AtFront L s o → IsPlain s → IfOk k (λ found. StatementBehind phrase phrase.rest.now found) → IfOk k (StatementAt s)
+begun_ok s o phrase (Ok k) h front plain f =
+    let there : AtFront L s (Some phrase) = subst (AtFront L s) h front in
+    f s there.0 plain there.1
+begun_ok s o phrase (Err e) h front plain f = tt
+
+pub no_front : (s : Tokens) (o : Option Phrase) → o ≡ None → AtFront L s o → IsPlain s → (k : Kind) → Simple s k → ⊥
+no_front s o h front plain = no_phrase s plain (subst (AtFront L s) h front)

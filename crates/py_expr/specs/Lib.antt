@@ -18,3 +18,5 @@ pub mod LineEnds
 pub mod Runs
 pub mod ImportRuns
 pub mod Statements
+pub mod Signatures
+pub mod Heads

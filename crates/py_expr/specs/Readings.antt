@@ -1,5 +1,6 @@
 -- No definition of the language: what is known of a thing that was read at the front of tokens.
-use Rattle.std.specs.Prelude.{◌≡◌, ◌≤◌, ◌<◌, ℕ, List, ◌∷◌, Option, Some, None}
+use Rattle.std.specs.Prelude.{◌≡◌, ◌≤◌, ◌<◌, ℕ, List, ◌∷◌, Option, Some, None, Result, Ok, Err}
+use Rattle.std.specs.declared.alloc.AllocError.{AllocError}
 use Rattle.py_expr.specs.declared.phrase.Built.{Built}
 use Rattle.py_expr.specs.declared.phrase.Built.TheVariants.{Shallow, TooDeep}
 use Rattle.py_expr.specs.declared.found.Found.{Found}
@@ -61,6 +62,13 @@ built_on make TooDeep = TooDeep
 abbrev pub both_built : {A B : Type 0} → Built A → Built B → Built (A × B)
 both_built (Shallow a) second = built_on (λ b. (a, b)) second
 both_built TooDeep second = TooDeep
+
+-- what was built, with what was to be read behind it
+abbrev pub IsNext : {A B : Type 0} → Built A → Result (Option (Found B)) AllocError → Option (Found (A × B)) → Type 0
+IsNext thing (Err error) found = ⊥
+IsNext thing (Ok None) found = found ≡ None
+IsNext thing (Ok (Some next)) None = ⊥
+IsNext thing (Ok (Some next)) (Some found) = (found.built ≡ both_built thing next.built) × (found.rest.now ≡ next.rest.now)
 
 -- what was built, where `)` follows
 abbrev pub IsClosed : {T : Type 0} → Built T → Tokens → Option (Found T) → Type 0

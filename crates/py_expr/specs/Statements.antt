@@ -1,13 +1,14 @@
 -- No definition of the language: what is known of a simple statement that was read, and of the parts that end with the line.
-use Rattle.std.specs.Prelude.{◌≡◌, ℕ, max, true, false, Bool, [], ◌∷◌, Option, Some, None}
+use Rattle.std.specs.Prelude.{◌≡◌, ℕ, max, true, false, Bool, List, [], ◌∷◌, Option, Some, None}
 use Rattle.py_tree.specs.Syntax as x
-use Rattle.py_tree.specs.Syntax.{Expression, Target, Kind}
+use Rattle.py_tree.specs.Syntax.{Text, Expression, Target, Kind}
 use Rattle.py_tree.specs.Nesting.{nesting}
 use Rattle.py_tree.specs.Joined.{expression_of, maybe_of, target_of, kind_of}
 use Rattle.py_tree.specs.declared.expression.Expr.{Expr}
 use Rattle.py_tree.specs.declared.expression.Target as tree
 use Rattle.py_tree.specs.declared.expression.Target.TheVariants as made
 use Rattle.py_tree.specs.declared.operator.BinaryOp.{BinaryOp}
+use Rattle.py_tree.specs.declared.statement.Import.{Import}
 use Rattle.py_tree.specs.declared.statement.StmtKind.{StmtKind}
 use Rattle.py_lexer.specs.declared.token.Token.{Token}
 use Rattle.py_lexer.specs.declared.token.Token.TheVariants as token
@@ -17,9 +18,12 @@ use Rattle.py_lexer.specs.declared.token.Mark.TheVariants as mark
 use Rattle.py_expr.specs.declared.phrase.Built.{Built}
 use Rattle.py_expr.specs.declared.phrase.Built.TheVariants.{Shallow}
 use Rattle.py_expr.specs.declared.phrase.Phrase.{Phrase}
+use Rattle.py_expr.specs.Tokens as t
+use Rattle.py_expr.specs.declared.form.Form as tree_form
+use Rattle.py_expr.specs.Forms.{Head, form_of}
 use Rattle.py_expr.specs.Grammar.{Tokens, Spells, E, L}
-use Rattle.py_expr.specs.Lines.{Augmented, Value, Simple}
-use Rattle.py_expr.specs.Depth.{maybe_nesting, target_nesting, kind_nesting}
+use Rattle.py_expr.specs.Lines.{Augmented, HeadAt, Line, Place, Value, Simple, Taken}
+use Rattle.py_expr.specs.Depth.{form_nesting, maybe_nesting, target_nesting, kind_nesting}
 use Rattle.py_expr.specs.Phrases.{Is}
 use Rattle.py_expr.specs.Readings.{IsBuilt}
 
@@ -62,20 +66,57 @@ IsLast thing rest (Some last) = (last ≡ thing) × (rest ≡ [])
 abbrev pub Makes : (Expression → Kind) → Built Expr → Built StmtKind → Type 0
 Makes make value statement = (e : Expression) → IsBuilt expression_of nesting e value → IsBuilt kind_of kind_nesting (make e) statement
 
--- of a target and an expression
-abbrev pub MakesOfBoth : (Target → Expression → Kind) → Built tree.Target → Built Expr → Built StmtKind → Type 0
-MakesOfBoth make target value statement =
-    (g : Target) (e : Expression) → IsBuilt target_of target_nesting g target → IsBuilt expression_of nesting e value → IsBuilt kind_of kind_nesting (make g e) statement
+abbrev pub parts_of : tree.Target × Expr → Target × Expression
+parts_of p = (target_of p.0, expression_of p.1)
 
--- of an annotation
-abbrev pub Annotates : Target → Built (Expr × Option Expr) → Built StmtKind → Type 0
-Annotates g annotation statement =
-    (k : Expression) (v : Option Expression) → IsBuilt annotation_of annotation_nesting (k, v) annotation → IsBuilt kind_of kind_nesting (x.Annotate g k v) statement
+abbrev pub parts_nesting : Target × Expression → ℕ
+parts_nesting p = max (target_nesting p.0) (nesting p.1)
+
+-- of a target and an expression
+abbrev pub MakesOfBoth : (Target → Expression → Kind) → Built (tree.Target × Expr) → Built StmtKind → Type 0
+MakesOfBoth make parts statement = (g : Target) (e : Expression) → IsBuilt parts_of parts_nesting (g, e) parts → IsBuilt kind_of kind_nesting (make g e) statement
+
+-- the target from s up to r and the value that the tokens m are, exactly where they are there
+abbrev pub PartsAt : (Tokens → Tokens → Target → Type 0) → Tokens → Tokens → Tokens → Option (Built (tree.Target × Expr)) → Type 0
+PartsAt Aims s r m (Some parts) = (g : Target) × (e : Expression) × Aims s r g × AllOfList m e × IsBuilt parts_of parts_nesting (g, e) parts
+PartsAt Aims s r m None = (g : Target) (e : Expression) → Aims s r g → AllOfList m e → ⊥
+
+abbrev pub Parts : (Tokens → Tokens → Target → Type 0) → Phrase → Tokens → Option (Built (tree.Target × Expr)) → Type 0
+Parts Aims phrase m found = (s r : Tokens) (e : Expression) → Is phrase L s r e → PartsAt Aims s r m found
+
+abbrev pub annotated_of : tree.Target × (Expr × Option Expr) → Target × (Expression × Option Expression)
+annotated_of p = (target_of p.0, annotation_of p.1)
+
+abbrev pub annotated_nesting : Target × (Expression × Option Expression) → ℕ
+annotated_nesting p = max (target_nesting p.0) (annotation_nesting p.1)
+
+-- of a target and an annotation
+abbrev pub Annotates : Built (tree.Target × (Expr × Option Expr)) → Built StmtKind → Type 0
+Annotates parts statement =
+    (g : Target) (k : Expression) (v : Option Expression) → IsBuilt annotated_of annotated_nesting (g, (k, v)) parts → IsBuilt kind_of kind_nesting (x.Annotate g k v) statement
+
+-- the target with the annotation that the tokens are, exactly where they are one
+abbrev pub AnnotatesAt : Target → Tokens → Option (Built (tree.Target × (Expr × Option Expr))) → Type 0
+AnnotatesAt g s (Some parts) = (k : Expression) × (v : Option Expression) × Annotated s (k, v) × IsBuilt annotated_of annotated_nesting (g, (k, v)) parts
+AnnotatesAt g s None = (y : Expression × Option Expression) → Annotated s y → ⊥
+
+-- a module's name and the names taken from it, exactly where they stand there
+abbrev pub FromAt : Tokens → Option (Text × List Import) → Type 0
+FromAt s (Some p) = (r : Tokens) × (s ≡ token.Name p.0 ∷ t.import_ ∷ r) × Taken r p.1
+FromAt s None = (n : Text) (r : Tokens) (is : List Import) → s ≡ token.Name n ∷ t.import_ ∷ r → Taken r is → ⊥
 
 -- whether the target is a place, and no names
 abbrev pub is_place : Built tree.Target → Bool
 is_place (Shallow (made.Names names)) = false
 is_place _ = true
+
+-- exactly where a place stands at the front of s and r follows it, it is built, where it is nested at most 200 deep
+abbrev pub IsPlaceBuilt : Tokens → Tokens → Option (Built tree.Target) → Type 0
+IsPlaceBuilt s r (Some built) = (g : Target) × Place s r g × IsBuilt target_of target_nesting g built
+IsPlaceBuilt s r None = (g : Target) → Place s r g → ⊥
+
+abbrev pub BuildsPlace : Phrase → Option (Built tree.Target) → Type 0
+BuildsPlace phrase built = (s r : Tokens) (e : Expression) → Is phrase L s r e → IsPlaceBuilt s r built
 
 -- the operator of an augmented assignment
 abbrev pub Augments : Tokens → BinaryOp → Tokens → Type 0
@@ -105,3 +146,11 @@ HasNoWord s = (w : Keyword) (r : Tokens) → s ≡ token.Word w ∷ r → ⊥
 -- of what begins with a phrase
 abbrev pub StatementBehind : Phrase → Tokens → Option (Built StmtKind) → Type 0
 StatementBehind phrase behind found = (s : Tokens) (e : Expression) → IsPlain s → Is phrase L s behind e → StatementAt s found
+
+-- ---- lines
+
+abbrev pub FormAt : Tokens → Option (Built tree_form.Form) → Type 0
+FormAt s found = WholeAt Line form_of form_nesting s found
+
+abbrev pub HasNoHead : Tokens → Type 0
+HasNoHead s = (r : Tokens) (h : Head) → HeadAt s r h → ⊥

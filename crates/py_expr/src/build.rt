@@ -43,19 +43,19 @@ fn put_constant(trees: &mut Vec<Expr>, constant: Const) -> Result<(), AllocError
 }
 
 /// The first text and then the second.
-fn concat(alloc: Global, first: &Text, second: &Text) -> Result<Text, AllocError>
-    ensures { IfOk result (λ text. text ≡ first.now ++ second.now) }
+fn joined(first: Text, second: &Text) -> Result<Text, AllocError>
+    ensures { IfOk result (λ text. text ≡ first ++ second.now) }
 {
-    let mut points = Vec::from_slice(alloc, first.as_slice())?;
-    points.extend_from_slice(second.as_slice())?;
-    Ok(Text::from_vec(points))
+    let mut text = first;
+    text.append(second)?;
+    Ok(text)
 }
 
-fn join_text(alloc: Global, trees: &mut Vec<Expr>, text: &Text) -> Result<(), AllocError>
+fn join_text(trees: &mut Vec<Expr>, text: &Text) -> Result<(), AllocError>
     ensures { OnOk result (trees_of trees.new.items ≡ m.on_one (m.join_text text.now) (trees_of trees.old.items)) }
 {
     match trees.pop() {
-        Some(Expr::Str(first)) => put(trees, Expr::Str(concat(alloc, &first, text)?)),
+        Some(Expr::Str(first)) => put(trees, Expr::Str(joined(first, text)?)),
         Some(tree) => put(trees, tree),
         None => Ok(()),
     }
@@ -419,7 +419,7 @@ fn grow(alloc: Global, trees: &mut Vec<Expr>, step: Step) -> Result<(), AllocErr
         Step::PutName(name) => put_name(alloc, trees, name),
         Step::PutInt(n) => put(trees, Expr::Int(n)),
         Step::PutText(text) => put_text(alloc, trees, text),
-        Step::JoinText(text) => join_text(alloc, trees, text),
+        Step::JoinText(text) => join_text(trees, text),
         Step::PutConstant(constant) => put_constant(trees, constant),
         Step::Grouped => Ok(()),
         Step::MakeTuple(n) => make_tuple(alloc, trees, n),

@@ -1,6 +1,4 @@
 ghost use Rattle.std.specs.Prelude.{◌≡◌, ◌≤◌, ◌-◌, length, take, [], ◌∷◌, IfOk};
-ghost use Rattle.std.specs.List.{list_any};
-ghost use Rattle.std.specs.Str.{bytes_eq};
 ghost use Rattle.py_expr.specs.Machine as m;
 ghost use Rattle.py_expr.specs.Views.{texts_of, frames_of, maybe_frame, top, rest};
 ghost use Rattle.py_expr.specs.Readers.{Acts, calls};
@@ -9,6 +7,7 @@ use crate::machine::{Frame, Mode, Step};
 use crate::reader::{Reader, one_more};
 use py_tree::text::Text;
 use std::alloc::{AllocError, Global};
+use std::collections::BTreeSet;
 
 /// A call that ends: its arguments by number, and the number of frames below it.
 #[derive(Clone, Copy)]
@@ -18,31 +17,17 @@ struct Call {
     below: usize,
 }
 
-fn same(name: &Text, other: &Text) -> bool
-    ensures { result ≡ bytes_eq name.now other.now }
+/// Whether no name is given twice.
+fn no_repeats(alloc: Global, names: &[&Text]) -> Result<bool, AllocError>
+    ensures { IfOk result (λ differ. differ ≡ m.no_repeats (texts_of names.now)) }
 {
-    name.as_slice() == other.as_slice()
-}
-
-/// Whether the name is among the names.
-fn has_name(name: &Text, names: &[&Text]) -> bool
-    ensures { result ≡ list_any (λ other. bytes_eq name.now other.now) names.now }
-{
-    names.iter().any(|other| same(name, other))
-}
-
-/// Whether no name is given twice. Takes time in the square of their number.
-#[tactic(auto, using(crate::proofs::Names::no_repeats_next))]
-fn no_repeats(names: Vec<&Text>) -> bool
-    ensures { result ≡ m.no_repeats (texts_of names.entry.items) }
-{
-    let mut earlier = names;
-    while let Some(name) = earlier.pop() {
-        if has_name(name, &earlier) {
-            return false;
+    let mut seen = BTreeSet::new(alloc);
+    for name in names {
+        if !seen.insert(name.as_slice())? {
+            return Ok(false);
         }
     }
-    true
+    Ok(true)
 }
 
 /// The newest of the first frames, by their number.
@@ -73,7 +58,7 @@ fn ending_call<'a>(
     match newest(frames, count) {
         Some(Frame::Call(args)) => {
             let keywords = names.len();
-            if !no_repeats(names) {
+            if !no_repeats(alloc, &names)? {
                 return Ok(None);
             }
             Ok(Some(Call {

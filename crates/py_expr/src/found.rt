@@ -1,6 +1,6 @@
-ghost use Rattle.std.specs.Prelude.{◌≡◌, Some, None};
+ghost use Rattle.std.specs.Prelude.{◌≡◌, Some, None, IfOk};
 ghost use Rattle.py_expr.specs.declared.phrase.Built.TheVariants as Built;
-ghost use Rattle.py_expr.specs.Readings.{built_on, both_built};
+ghost use Rattle.py_expr.specs.Readings.{IsNext, built_on, both_built};
 
 use crate::phrase::Built;
 use py_lexer::token::Token;
@@ -43,6 +43,22 @@ fn beside<A: Drop, B>(first: A, second: Built<B>) -> Built<(A, B)>
     match second {
         Built::Shallow(second) => Built::Shallow((first, second)),
         Built::TooDeep => Built::TooDeep,
+    }
+}
+
+/// The thing with the one that was to be read behind it.
+pub(crate) fn with_next<'a, A: Drop, B: Drop>(
+    thing: Built<A>,
+    next: Reading<'a, B>,
+) -> Reading<'a, (A, B)>
+    ensures { IfOk result (IsNext thing next.entry) }
+{
+    match next? {
+        Some(found) => Ok(Some(Found {
+            built: both(thing, found.built),
+            rest: found.rest,
+        })),
+        None => Ok(None),
     }
 }
 

@@ -46,6 +46,16 @@ pub(crate) fn first_word(tokens: &[Token]) -> Option<(Keyword, &[Token])>
     }
 }
 
+/// The mark at the front with what follows it, where one stands there.
+pub(crate) fn first_mark(tokens: &[Token]) -> Option<(Mark, &[Token])>
+    ensures { MatchOption result ((m : _) (r : Tokens) → tokens.now ≡ token.Mark m ∷ r → ⊥) (λ found. tokens.now ≡ token.Mark found.0 ∷ found.1.now) }
+{
+    match tokens {
+        [Token::Mark(mark), rest @ ..] => Some((*mark, rest)),
+        _ => None,
+    }
+}
+
 /// What follows `)` and `:`, where they stand at the front.
 pub(crate) fn after_closed_head(tokens: &[Token]) -> Option<&[Token]>
     ensures { MatchOption result ((r : Tokens) → tokens.now ≡ t.right_paren ∷ t.colon ∷ r → ⊥) (λ rest. tokens.now ≡ t.right_paren ∷ t.colon ∷ rest.now) }
@@ -56,6 +66,21 @@ pub(crate) fn after_closed_head(tokens: &[Token]) -> Option<&[Token]>
             Token::Mark(Mark::Colon),
             rest @ ..,
         ] => Some(rest),
+        _ => None,
+    }
+}
+
+/// The name behind `as`, with what follows it and `:`, where they stand at the front.
+pub(crate) fn after_bound_name(tokens: &[Token]) -> Option<(&Text, &[Token])>
+    ensures { MatchOption result ((n : _) (r : Tokens) → tokens.now ≡ t.as_ ∷ token.Name n ∷ t.colon ∷ r → ⊥) (λ found. tokens.now ≡ t.as_ ∷ token.Name found.0.now ∷ t.colon ∷ found.1.now) }
+{
+    match tokens {
+        [
+            Token::Word(Keyword::As),
+            Token::Name(name),
+            Token::Mark(Mark::Colon),
+            rest @ ..,
+        ] => Some((name, rest)),
         _ => None,
     }
 }

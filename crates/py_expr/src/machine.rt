@@ -2,6 +2,7 @@ ghost use Rattle.std.specs.Prelude.{◌≡◌};
 ghost use Rattle.py_expr.specs.Machine as m;
 ghost use Rattle.py_expr.specs.Views.{frame_of, level_of};
 
+use crate::level::{self, Level};
 use py_lexer::token::{Keyword, Mark, Token};
 use py_tree::operator::{BinaryOp, CompareOp, Const, UnaryOp};
 use py_tree::text::Text;
@@ -38,61 +39,61 @@ pub enum Frame<'a> {
 }
 
 impl<'a> Frame<'a> {
-    /// The loosest level that may stand behind it. Levels go from 1, of a sign, to 8, of an expression.
-    pub fn wants(self) -> u8
+    /// The loosest level that may stand behind it.
+    pub fn wants(self) -> Level
         ensures { result ≡ m.wants_behind (frame_of self.entry) }
     {
         match self {
-            Frame::Sign(_) | Frame::Product(_) => 1,
-            Frame::Sum(_) => 2,
-            Frame::Compare(_) => 3,
-            Frame::Negation | Frame::And => 5,
-            Frame::Or => 6,
-            Frame::Test => 7,
-            _ => 8,
+            Frame::Sign(_) | Frame::Product(_) => level::SIGN,
+            Frame::Sum(_) => level::PRODUCT,
+            Frame::Compare(_) => level::SUM,
+            Frame::Negation | Frame::And => level::NEGATION,
+            Frame::Or => level::CONJUNCTION,
+            Frame::Test => level::DISJUNCTION,
+            _ => level::EXPRESSION,
         }
     }
 
-    /// The level of what it makes with its last operand, and 9 where its end is a token.
-    pub fn makes(self) -> u8
+    /// The level of what it makes with its last operand, and above all where its end is a token.
+    pub fn makes(self) -> Level
         ensures { result ≡ m.makes (frame_of self.entry) }
     {
         match self {
-            Frame::Sign(_) => 1,
-            Frame::Product(_) => 2,
-            Frame::Sum(_) => 3,
-            Frame::Compare(_) => 4,
-            Frame::Negation => 5,
-            Frame::And => 6,
-            Frame::Or => 7,
-            Frame::Other => 8,
-            _ => 9,
+            Frame::Sign(_) => level::SIGN,
+            Frame::Product(_) => level::PRODUCT,
+            Frame::Sum(_) => level::SUM,
+            Frame::Compare(_) => level::COMPARISON,
+            Frame::Negation => level::NEGATION,
+            Frame::And => level::CONJUNCTION,
+            Frame::Or => level::DISJUNCTION,
+            Frame::Other => level::EXPRESSION,
+            _ => level::BRACKET,
         }
     }
 
     /// The level of its left operand.
-    pub fn left(self) -> u8
+    pub fn left(self) -> Level
         ensures { result ≡ m.left_of (frame_of self.entry) }
     {
         match self {
-            Frame::Product(_) => 2,
-            Frame::Sum(_) | Frame::Compare(_) => 3,
-            Frame::And => 6,
-            _ => 7,
+            Frame::Product(_) => level::PRODUCT,
+            Frame::Sum(_) | Frame::Compare(_) => level::SUM,
+            Frame::And => level::CONJUNCTION,
+            _ => level::DISJUNCTION,
         }
     }
 
     /// The level that must be wanted where what it makes stands.
-    pub fn stands(self) -> u8
+    pub fn stands(self) -> Level
         ensures { result ≡ m.stands_at (frame_of self.entry) }
     {
         match self {
-            Frame::Product(_) => 2,
-            Frame::Sum(_) => 3,
-            Frame::Compare(_) => 4,
-            Frame::And => 6,
-            Frame::Or => 7,
-            _ => 8,
+            Frame::Product(_) => level::PRODUCT,
+            Frame::Sum(_) => level::SUM,
+            Frame::Compare(_) => level::COMPARISON,
+            Frame::And => level::CONJUNCTION,
+            Frame::Or => level::DISJUNCTION,
+            _ => level::EXPRESSION,
         }
     }
 }

@@ -1,10 +1,8 @@
-ghost use Rattle.std.specs.Prelude.{◌≡◌, ◌≤◌, IfOk, Some};
-ghost use Rattle.py_tree.specs.Joined.{target_of};
+ghost use Rattle.std.specs.Prelude.{◌≡◌, Some};
+ghost use Rattle.py_tree.specs.Joined.{kind_of, target_of};
 ghost use Rattle.py_tree.specs.Syntax as x;
-ghost use Rattle.py_expr.specs.Depth.{target_nesting};
-ghost use Rattle.py_expr.specs.Statements.{Annotates, Makes, MakesOfBoth};
+ghost use Rattle.py_expr.specs.Statements.{Annotates, annotation_of, Makes, MakesOfBoth};
 
-use crate::found::both;
 use crate::phrase::Built;
 use py_tree::expression::{Expr, Target};
 use py_tree::operator::BinaryOp;
@@ -41,31 +39,38 @@ pub(crate) fn evaluating(value: Built<Expr>) -> Built<StmtKind>
 }
 
 /// `target = value`
-pub(crate) fn assigning(target: Built<Target>, value: Built<Expr>) -> Built<StmtKind>
-    ensures { MakesOfBoth x.Assign target value result }
+pub(crate) fn assigning(parts: Built<(Target, Expr)>) -> Built<StmtKind>
+    ensures { MakesOfBoth x.Assign parts result }
 {
-    match both(target, value) {
+    match parts {
         Built::Shallow((target, value)) => Built::Shallow(StmtKind::Assign(target, value)),
         Built::TooDeep => Built::TooDeep,
     }
 }
 
 /// `target op= value`
-pub(crate) fn augmenting(target: Built<Target>, op: BinaryOp, value: Built<Expr>) -> Built<StmtKind>
-    ensures { MakesOfBoth (λ g e. x.Augment g op e) target value result }
+pub(crate) fn augmenting(parts: Built<(Target, Expr)>, op: BinaryOp) -> Built<StmtKind>
+    ensures { MakesOfBoth (λ g e. x.Augment g op e) parts result }
 {
-    match both(target, value) {
+    match parts {
         Built::Shallow((target, value)) => Built::Shallow(StmtKind::Augment(target, op, value)),
         Built::TooDeep => Built::TooDeep,
     }
 }
 
 /// `target: kind = value`
-pub(crate) fn annotating(target: Target, annotation: Built<(Expr, Option<Expr>)>) -> Built<StmtKind>
-    ensures { target_nesting (target_of target) ≤ 200 → Annotates (target_of target) annotation result }
+fn annotation(target: Target, parts: (Expr, Option<Expr>)) -> StmtKind
+    ensures { kind_of result ≡ x.Annotate (target_of target) (annotation_of parts).0 (annotation_of parts).1 }
 {
-    match annotation {
-        Built::Shallow((kind, value)) => Built::Shallow(StmtKind::Annotate(target, kind, value)),
+    StmtKind::Annotate(target, parts.0, parts.1)
+}
+
+/// `target: kind = value`
+pub(crate) fn annotating(parts: Built<(Target, (Expr, Option<Expr>))>) -> Built<StmtKind>
+    ensures { Annotates parts result }
+{
+    match parts {
+        Built::Shallow((target, parts)) => Built::Shallow(annotation(target, parts)),
         Built::TooDeep => Built::TooDeep,
     }
 }

@@ -3,6 +3,7 @@ ghost use Rattle.py_lexer.specs.declared.token.Token.TheVariants as token;
 ghost use Rattle.py_expr.specs.Machine as m;
 ghost use Rattle.py_expr.specs.Readers.{Acts};
 
+use crate::level;
 use crate::machine::{Frame, Mode, Step};
 use crate::reader::Reader;
 use py_lexer::token::{Keyword, Mark, Token};
@@ -14,7 +15,7 @@ impl<'a> Reader<'a> {
     fn negation(&mut self) -> Result<Option<Mode>, AllocError>
         ensures { IfOk result (Acts m.negation self.old self.new) }
     {
-        if self.wants() < 5 {
+        if self.wants() < level::NEGATION {
             return Ok(None);
         }
         self.open(Frame::Negation, Mode::Want)

@@ -4,6 +4,7 @@ ghost use Rattle.py_expr.specs.Machine as m;
 ghost use Rattle.py_expr.specs.Views.{mode_of, frame_of, frames_of, steps_of, maybe_frame};
 ghost use Rattle.py_expr.specs.Readers.{kept, Acts, Steps};
 
+use crate::level::{self, Level};
 use crate::machine::{Frame, Mode, Step};
 use crate::reader::{Reader, one_more};
 use py_lexer::token::{Keyword, Mark, Token};
@@ -45,15 +46,15 @@ fn loose<'a>(token: &Token) -> Option<Frame<'a>>
 }
 
 /// The level of the phrase that the token ends, if it ends one.
-fn closes_before(token: &Token) -> Option<u8>
+fn closes_before(token: &Token) -> Option<Level>
     ensures { result ≡ m.closes_before token.now }
 {
     match token {
-        Token::Word(Keyword::Not | Keyword::Is) => Some(3),
-        Token::Word(Keyword::Else) => Some(7),
+        Token::Word(Keyword::Not | Keyword::Is) => Some(level::SUM),
+        Token::Word(Keyword::Else) => Some(level::DISJUNCTION),
         Token::Mark(
             Mark::Comma | Mark::RightParen | Mark::RightBracket | Mark::RightBrace | Mark::Colon,
-        ) => Some(8),
+        ) => Some(level::EXPRESSION),
         _ => match tight(token) {
             Some(frame) => Some(frame.left()),
             None => match loose(token) {
@@ -99,7 +100,7 @@ impl<'a> Reader<'a> {
     fn compared_by(&mut self, mode: Mode) -> Result<Option<Mode>, AllocError>
         ensures { IfOk result (Acts (m.compared_by (mode_of mode)) self.old self.new) }
     {
-        if self.wants() < 4 {
+        if self.wants() < level::COMPARISON {
             return Ok(None);
         }
         Ok(Some(mode))

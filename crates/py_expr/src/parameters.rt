@@ -5,7 +5,8 @@ ghost use Rattle.py_expr.specs.Lines.{Annotation, Default, Parameter, Parameters
 ghost use Rattle.py_expr.specs.LineEnds.{Anything, EndsAnnotation, EndsParameter};
 ghost use Rattle.py_expr.specs.Depth.{maybe_nesting, param_nesting, params_nesting};
 ghost use Rattle.py_expr.specs.Forms.{params_of};
-ghost use Rattle.py_expr.specs.Readings.{BeforeParen, FoundAt, IsBuilt, IsClosed, built_on};
+ghost use Rattle.py_expr.specs.Readings.{FoundAt, IsBuilt, IsClosed, built_on};
+ghost use Rattle.py_expr.specs.Signatures as spec;
 ghost use Rattle.py_expr.specs.declared.phrase.Built.TheVariants as Built;
 
 use crate::expressions::{expression, expression_before_colon};
@@ -59,9 +60,24 @@ pub(crate) fn result_kind<'a>(alloc: Global, tokens: &'a [Token]) -> Reading<'a,
     }
 }
 
+/// A parameter that was read, and what follows it.
+#[derive(Drop)]
+struct ReadParam<'a> {
+    built: Built<Param>,
+    /// Whether it has a default, also where that is too deep to be built.
+    has_default: bool,
+    rest: &'a [Token],
+}
+
+fn begins_default(tokens: &[Token]) -> bool
+    ensures { result ≡ spec.begins_default tokens.now }
+{
+    matches!(tokens, [Token::Mark(Mark::Equal), ..])
+}
+
 /// `NAME [":" E] ["=" E]`
-fn parameter<'a>(alloc: Global, tokens: &'a [Token]) -> Reading<'a, Param>
-    ensures { IfOk result (λ found. FoundAt Parameter EndsParameter param_of param_nesting tokens.now found) }
+fn parameter<'a>(alloc: Global, tokens: &'a [Token]) -> Result<Option<ReadParam<'a>>, AllocError>
+    ensures { IfOk result (spec.ParamAt tokens.now) }
 {
     let Some((name, rest)) = after_name(tokens) else {
         return Ok(None);
@@ -72,8 +88,9 @@ fn parameter<'a>(alloc: Global, tokens: &'a [Token]) -> Reading<'a, Param>
     let Some(default) = default(alloc, kind.rest)? else {
         return Ok(None);
     };
-    Ok(Some(Found {
+    Ok(Some(ReadParam {
         built: built_parameter(alloc, name, kind.built, default.built)?,
+        has_default: begins_default(kind.rest),
         rest: default.rest,
     }))
 }
@@ -96,11 +113,12 @@ fn built_parameter(
     }
 }
 
-/// `{param ","} [param] ")"`
+/// `{param ","} [param] ")"`, with the defaults last.
 pub(crate) fn parameters<'a>(alloc: Global, tokens: &'a [Token]) -> Reading<'a, Params>
-    ensures { IfOk result (λ found. FoundAt BeforeParen Anything params_of params_nesting tokens.now found) }
+    ensures { IfOk result (λ found. FoundAt spec.Signature Anything params_of params_nesting tokens.now found) }
 {
     let mut params = Built::Shallow(Params::new(alloc));
+    let mut defaults = false;
     let mut rest = tokens;
     loop {
         if let Some(behind) = after_mark(rest, Mark::RightParen) {
@@ -109,12 +127,16 @@ pub(crate) fn parameters<'a>(alloc: Global, tokens: &'a [Token]) -> Reading<'a, 
                 rest: behind,
             }));
         }
-        let Some(found) = parameter(alloc, rest)? else {
+        let Some(read) = parameter(alloc, rest)? else {
             return Ok(None);
         };
-        params = pushed(params, found.built)?;
-        let Some(more) = after_mark(found.rest, Mark::Comma) else {
-            return Ok(closed(params, found.rest));
+        params = pushed(params, read.built)?;
+        if defaults && !read.has_default {
+            return Ok(None);
+        }
+        defaults = read.has_default;
+        let Some(more) = after_mark(read.rest, Mark::Comma) else {
+            return Ok(closed(params, read.rest));
         };
         rest = more;
     }

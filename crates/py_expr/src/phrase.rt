@@ -7,6 +7,7 @@ ghost use Rattle.py_expr.specs.declared.phrase.Stop.{Stop};
 ghost use Rattle.py_expr.specs.Phrases.{as_read, Stops, AtFront, BuildsExpression, BuildsTarget};
 
 use crate::build::build;
+use crate::level;
 use crate::machine::{Frame, Mode, Step, Whole};
 use crate::nesting::nesting_of;
 use crate::reader::Reader;
@@ -78,7 +79,7 @@ impl<'a> Reader<'a> {
         match mode {
             Mode::Next => self.ended_after_comma(),
             Mode::Have | Mode::Compared => {
-                self.close(8)?;
+                self.close(level::EXPRESSION)?;
                 self.ended()
             }
             _ => Ok(false),

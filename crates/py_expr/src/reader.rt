@@ -3,6 +3,7 @@ ghost use Rattle.py_expr.specs.Machine as m;
 ghost use Rattle.py_expr.specs.Views.{step_of, steps_of, frame_of, frames_of, maybe_frame, maybe_step, mode_of, level_of, top, rest};
 ghost use Rattle.py_expr.specs.Readers.{kept, Acts};
 
+use crate::level::Level;
 use crate::machine::{Frame, Mode, Step, Whole};
 use std::alloc::{AllocError, Global};
 use std::mem;
@@ -105,7 +106,7 @@ impl<'a> Reader<'a> {
     }
 
     /// Ends the phrases up to the level.
-    pub fn close(&mut self, level: u8) -> Result<(), AllocError>
+    pub fn close(&mut self, level: Level) -> Result<(), AllocError>
         ensures { OnOk result (kept self.new ≡ m.close level (frames_of self.old.frames.items) (steps_of self.old.steps.items)) }
     {
         while let Some(frame) = self.top() {
@@ -119,7 +120,7 @@ impl<'a> Reader<'a> {
     }
 
     /// The loosest level that may stand here.
-    pub fn wants(&self) -> u8
+    pub fn wants(&self) -> Level
         ensures { result ≡ m.wants (frames_of self.now.frames.items) }
     {
         match self.top() {

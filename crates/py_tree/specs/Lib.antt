@@ -6,3 +6,4 @@ pub mod Literals
 pub mod Lawful
 pub mod Order
 pub mod TopPart
+pub mod Stops

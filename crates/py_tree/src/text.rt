@@ -1,4 +1,4 @@
-ghost use Rattle.std.specs.Prelude.{◌≡◌, ℕ, List, IfOk, IsTrue, ◌↔◌, length};
+ghost use Rattle.std.specs.Prelude.{◌≡◌, ℕ, List, ◌++◌, IfOk, OnOk, OnErr, IsTrue, ◌↔◌, length};
 ghost use Rattle.std.specs.Str.{chars};
 
 use std::alloc::{AllocError, Global};
@@ -57,6 +57,14 @@ impl Text {
         Text::from_slice(alloc, self.as_slice())
     }
 
+    /// Puts another text behind it.
+    pub fn append(&mut self, more: &Text) -> Result<(), AllocError>
+        ensures ok { OnOk result (self.new ≡ self.old ++ more.now) }
+        ensures err { OnErr result (self.new ≡ self.old) }
+    {
+        self.points.extend_from_slice(more.as_slice())
+    }
+
     /// Whether both are the same code points. Takes no memory.
     pub fn same(&self, other: &Text) -> bool
         ensures equal { IsTrue result ↔ (self.now ≡ other.now) }
@@ -86,6 +94,9 @@ mod tests {
         assert!(rt; text.copy(alloc)?.same(&text));
         let other = Text::from_slice(alloc, &['h', '\u{e9}'])?;
         assert!(rt; !other.same(&text));
+        let mut joined = Text::from_str(alloc, "h")?;
+        joined.append(&Text::from_str(alloc, "\u{e9}")?)?;
+        assert!(rt; joined.same(&other));
         Ok(())
     }
 }

@@ -1,5 +1,5 @@
 -- The exception classes: their names, and which is directly below which.
-use Rattle.std.specs.Prelude.{ℕ, List, codes, Option, Some, None}
+use Rattle.std.specs.Prelude.{◌≡◌, ℕ, List, codes, Option, Some, None}
 use Rattle.py_values.specs.declared.exception.ExcKind.{ExcKind}
 use Rattle.py_values.specs.declared.exception.ExcKind.TheVariants.{Exception, ArithmeticError, ZeroDivisionError, OverflowError, LookupError, IndexError, KeyError, NameError, UnboundLocalError, AttributeError, TypeError, ValueError, RuntimeError, RecursionError, FrozenError}
 
@@ -36,3 +36,8 @@ base_of ValueError = Some Exception
 base_of RuntimeError = Some Exception
 base_of RecursionError = Some RuntimeError
 base_of FrozenError = Some Exception
+
+-- a class is below itself, and below what the class directly above it is below
+pub data IsBelow : ExcKind → ExcKind → Type 0 where
+  itself : {k : ExcKind} → IsBelow k k
+  by_base : {k b a : ExcKind} → base_of k ≡ Some b → IsBelow b a → IsBelow k a

@@ -1,5 +1,5 @@
-ghost use Rattle.std.specs.Prelude.{◌≡◌};
-ghost use Rattle.py_values.specs.Exceptions.{name_of, base_of};
+ghost use Rattle.std.specs.Prelude.{◌≡◌, IsTrue, ◌↔◌};
+ghost use Rattle.py_values.specs.Exceptions.{name_of, base_of, IsBelow};
 
 /// The exception classes (Python library reference: built-in exceptions). `FrozenError` is this project's own.
 #[derive(Clone, Copy, Debug, PartialEq, Eq)]
@@ -65,6 +65,20 @@ impl ExcKind {
             ExcKind::RecursionError => Some(ExcKind::RuntimeError),
         }
     }
+
+    /// Whether an `except` for the other class takes it: whether it is that class or one below.
+    #[cycle(is_below)]
+    pub fn is_below(self, other: ExcKind) -> bool
+        ensures below { IsTrue result ↔ IsBelow self other }
+    {
+        if self == other {
+            return true;
+        }
+        match self.base() {
+            Some(base) => base.is_below(other),
+            None => false,
+        }
+    }
 }
 
 #[cfg(test)]
@@ -76,6 +90,8 @@ mod tests {
     fn index_errors_are_lookup_errors(rt: HostRuntime) -> Result<(), Fail> {
         assert_eq!(rt; ExcKind::IndexError.base(), Some(ExcKind::LookupError));
         assert_eq!(rt; ExcKind::LookupError.name(), "LookupError");
+        assert!(rt; ExcKind::KeyError.is_below(ExcKind::Exception));
+        assert!(rt; !ExcKind::KeyError.is_below(ExcKind::ArithmeticError));
         Ok(())
     }
 }

@@ -70,7 +70,7 @@ a_clash : member_clashes outer clashing ≡ 2 ∷ []
 a_clash = refl
 
 -- class C(Exception): x: int has the slots args and x
-an_exception : map (λ c. c.kin.slots) (classes outer (alone (x.On 1 (x.Class (x.Classed (codes "C") (Some (x.Name (codes "Exception"))) (alone (x.On 2 (x.Annotate (x.ToName (codes "x")) name None)))))))) ≡ (codes "args" ∷ codes "x" ∷ []) ∷ []
+an_exception : map (λ c. c.kind.slots) (classes outer (alone (x.On 1 (x.Class (x.Classed (codes "C") (Some (x.Name (codes "Exception"))) (alone (x.On 2 (x.Annotate (x.ToName (codes "x")) name None)))))))) ≡ (codes "args" ∷ codes "x" ∷ []) ∷ []
 an_exception = refl
 
 -- for a in a: b = 1

@@ -1,1 +1,9 @@
 pub mod Examples
+pub mod Sets
+pub mod Entries
+pub mod Again
+pub mod FirstOnes
+pub mod PartFaults
+pub mod Trees
+pub mod Statics
+pub mod Arguments

@@ -8,13 +8,8 @@ use Rattle.py_tree.specs.declared.statement.Import.{Import}
 use Rattle.symbols.specs.declared.binding.BindingKind.{BindingKind}
 use Rattle.symbols.specs.declared.binding.BindingKind.TheVariants as by
 use Rattle.symbols.specs.declared.binding.StaticName.{StaticName}
+use Rattle.symbols.specs.declared.binding.Binding.{Binding}
 use Rattle.symbols.specs.Words.{is_marker, static_name}
-
-pub record Binding : Type 0 where
-  pub name : Text
-  pub line : ℕ
-  pub kind : BindingKind
-  pub static_name : Option StaticName  -- what it is bound to, where that is a static name
 
 abbrev pub bound : ℕ → BindingKind → Text → Binding
 bound line kind name = record { name = name; line = line; kind = kind; static_name = None }
@@ -92,12 +87,18 @@ names_of bs = map (λ b. b.name) bs
 abbrev pub is_global : Binding → Bool
 is_global b = is_none b.static_name
 
+abbrev pub globals_in : List Binding → List Text
+globals_in bs = first_mentions (names_of (filter is_global bs))
+
 abbrev pub globals : Statements → List Text
-globals body = first_mentions (names_of (filter is_global (bindings body)))
+globals body = globals_in (bindings body)
 
 abbrev pub param_names : List Param → List Text
 param_names params = map (λ p. p.name) params
 
 -- a name bound anywhere in a function is local to it throughout
+abbrev pub locals_of : List Param → Statements → List Text
+locals_of params body = first_mentions (param_names params ++ names_of (bindings body))
+
 abbrev pub locals : Function → List Text
-locals (x.Defined name params result body) = first_mentions (param_names params ++ names_of (bindings body))
+locals (x.Defined name params result body) = locals_of params body

@@ -1,36 +1,52 @@
 -- The names with a meaning of their own that stand where they may not, and the lines of such faults.
 use Rattle.std.specs.Prelude.{ℕ, Bool, true, false, not, ◌&&◌, ◌||◌, if◌then◌else◌, List, [], ◌∷◌, ◌++◌, codes, Option, Some, None, is_some}
-use Rattle.std.specs.List.{list_any, find, filter}
+use Rattle.std.specs.List.{list_any, find, filter, flat_map}
 use Rattle.std.specs.Str.{bytes_eq}
 use Rattle.py_tree.specs.Syntax as x
-use Rattle.py_tree.specs.Syntax.{Text, Expression, Expressions, Pairs, Keywords, Param, Target, Kind, Statements, Branches, Clauses, Function, ClassDef}
+use Rattle.py_tree.specs.Syntax.{Text, Expression, Expressions, Pairs, Keywords, Param, Target, Kind, Statement, Statements, Branches, Clauses, Function, ClassDef}
+use Rattle.py_tree.specs.Order.{of_scope}
 use Rattle.py_tree.specs.declared.statement.Import.{Import}
+use Rattle.symbols.specs.declared.binding.Binding.{Binding}
 use Rattle.symbols.specs.declared.binding.StaticName.{StaticName}
 use Rattle.symbols.specs.declared.binding.StaticName.TheVariants as static
+use Rattle.symbols.specs.declared.context.Use.{Use}
 use Rattle.symbols.specs.Words.{among, is_builtin, is_special, is_private, is_marker}
-use Rattle.symbols.specs.Bindings.{Binding, bindings, locals, alias_or}
+use Rattle.symbols.specs.Bindings.{bindings, locals_of, alias_or}
 
 -- where names stand
 pub record Context : Type 0 where
   pub in_class : Bool
   pub in_method : Bool  -- in the body of a method
-  pub statics : List Binding  -- the module's bindings of static names
+  pub statics : Text → Option StaticName  -- what the module binds to static names
   pub locals : List Text  -- of the function, which hide them
 
+abbrev pub is_static : Binding → Bool
+is_static b = is_some b.static_name
+
+-- the static name to which a name is bound among these bindings
+abbrev pub static_in : List Binding → Text → Option StaticName
+static_in bs name = static_or (find (λ b. bytes_eq name b.name) (filter is_static bs)) where
+  static_or : Option Binding → Option StaticName
+  static_or None = None
+  static_or (Some b) = b.static_name
+
+abbrev pub context_in : List Binding → Context
+context_in bs = record { in_class = false; in_method = false; statics = static_in bs; locals = [] }
+
 abbrev pub module_context : Statements → Context
-module_context body = record { in_class = false; in_method = false; statics = filter (λ b. is_some b.static_name) (bindings body); locals = [] }
+module_context body = context_in (bindings body)
 
 abbrev pub in_class_body : Context → Context
 in_class_body c = record c { in_class = true }
 
-abbrev pub in_function_body : Context → Function → Context
-in_function_body c f = record c { in_method = c.in_class; locals = locals f }
+abbrev pub with_locals : Context → List Text → Context
+with_locals c names = record c { in_method = c.in_class; locals = names }
+
+abbrev pub in_function_body : Context → List Param → Statements → Context
+in_function_body c params body = with_locals c (locals_of params body)
 
 abbrev pub static_of : Context → Text → Option StaticName
-static_of c name = if among name c.locals then None else static_or (find (λ b. bytes_eq name b.name) c.statics) where
-  static_or : Option Binding → Option StaticName
-  static_or None = None
-  static_or (Some b) = b.static_name
+static_of c name = if among name c.locals then None else c.statics name
 
 -- ---- one name
 
@@ -72,11 +88,6 @@ forbidden_method c name = forbidden c (all_special ∷ init_special ∷ []) name
 
 -- ---- static names
 
--- what is around a name
-pub record Use : Type 0 where
-  pub in_type : Bool  -- in an annotation, or in the first argument of `cast`
-  pub called : Bool
-
 abbrev pub plain : Use
 plain = record { in_type = false; called = false }
 
@@ -104,15 +115,31 @@ is_cast other = false
 
 -- ---- expressions
 
+abbrev pub is_named_super : Expression → Bool
+is_named_super (x.Name name) = bytes_eq name (codes "super")
+is_named_super e = false
+
+abbrev pub has_none : Keywords → Bool
+has_none x.end_of_keywords = true
+has_none keys = false
+
+abbrev pub takes_none : Expressions → Keywords → Bool
+takes_none x.end_of_expressions keys = has_none keys
+takes_none args keys = false
+
 -- `super()`
 abbrev pub is_super : Expression → Bool
-is_super (x.Call (x.Name name) x.end_of_expressions x.end_of_keywords) = bytes_eq name (codes "super")
+is_super (x.Call callee args keys) = takes_none args keys && is_named_super callee
 is_super e = false
 
 -- the callee is `cast`
 abbrev pub casts : Context → Expression → Bool
 casts c (x.Name name) = is_cast (static_of c name)
 casts c e = false
+
+-- the first argument of `cast` is a type
+abbrev pub argument_use : Bool → Use → Use
+argument_use cast u = if cast then typed else u
 
 -- whether such a name stands in the expression
 abbrev mutual
@@ -132,13 +159,13 @@ abbrev mutual
   -- `super().NAME(..)` in a method
   special c u (x.Attr e name) = forbidden_attribute c name || (not ((u.called && c.in_method) && is_super e) && special c (uncalled u) e)
   special c u (x.Index e i) = special c (uncalled u) e || special c (uncalled u) i
-  special c u (x.Call callee args keys) = special c (called u) callee || (arguments_special (casts c callee) c (uncalled u) args || keywords_special c (uncalled u) keys)
+  special c u (x.Call callee args keys) = special c (called u) callee || (arguments_special (argument_use (casts c callee) (uncalled u)) c (uncalled u) args || keywords_special c (uncalled u) keys)
   special c u _ = false
 
-  -- the first argument of `cast` is a type
-  pub arguments_special : Bool → Context → Use → Expressions → Bool
-  arguments_special cast c u x.end_of_expressions = false
-  arguments_special cast c u (x.more_expressions e rest) = special c (if cast then typed else u) e || all_special_in c u rest
+  -- what is around the first of some arguments, and around the others
+  pub arguments_special : Use → Context → Use → Expressions → Bool
+  arguments_special first c u x.end_of_expressions = false
+  arguments_special first c u (x.more_expressions e rest) = special c first e || all_special_in c u rest
 
   pub all_special_in : Context → Use → Expressions → Bool
   all_special_in c u x.end_of_expressions = false
@@ -168,67 +195,96 @@ abbrev pub maybe_forbidden : Context → Option Text → Bool
 maybe_forbidden c None = false
 maybe_forbidden c (Some name) = forbidden_binding c name
 
-abbrev pub module_special : Context → Import → Bool
-module_special c i = not (is_marker i.name) && (forbidden c (all_special ∷ []) i.name || forbidden_binding c (alias_or i.alias i.name))
-
+-- the imported name and the name that it is bound to
 abbrev pub member_special : Context → Import → Bool
 member_special c i = forbidden c (all_special ∷ []) i.name || forbidden_binding c (alias_or i.alias i.name)
+
+abbrev pub module_special : Context → Import → Bool
+module_special c i = not (is_marker i.name) && member_special c i
 
 abbrev pub from_special : Context → Text → List Import → Bool
 from_special c from is = not (bytes_eq from (codes "__future__")) && list_any (member_special c) is
 
 -- names, annotations and defaults of parameters, in the context around the function
-abbrev pub params_special : Context → List Param → Bool
-params_special c [] = false
-params_special c (p ∷ ps) = ((forbidden_binding c p.name || maybe_special c typed p.kind) || maybe_special c plain p.default) || params_special c ps
+abbrev pub param_special : Context → Param → Bool
+param_special c p = (forbidden_binding c p.name || maybe_special c typed p.kind) || maybe_special c plain p.default
 
 abbrev pub signature_special : Context → List Param → Option Expression → Bool
-signature_special c params result = params_special c params || maybe_special c typed result
+signature_special c params result = list_any (param_special c) params || maybe_special c typed result
 
 -- the line, where there is a fault
 abbrev pub at : ℕ → Bool → List ℕ
 at line fault = if fault then line ∷ [] else []
 
--- the lines of such faults in the statements of a module or a function and in their blocks, in the order of the text
-abbrev mutual
-  pub special_lines : Context → Statements → List ℕ
-  special_lines c x.end_of_statements = []
-  special_lines c (x.more_statements (x.On line kind) rest) = kind_lines c line kind ++ special_lines c rest
+-- whether such a name stands in the statement itself, and in no block of it; the conditions of an `if` and the clauses of a `try` have
+-- lines of their own
+abbrev pub own_special : Context → Kind → Bool
+own_special c (x.Return value) = maybe_special c plain value
+own_special c (x.Raise value) = maybe_special c plain value
+own_special c (x.Imports is) = list_any (module_special c) is
+own_special c (x.From from is) = from_special c from is
+own_special c (x.Eval e) = special c plain e
+own_special c (x.Assign t e) = target_special c t || special c plain e
+own_special c (x.Annotate t kind value) = target_special c t || (special c typed kind || maybe_special c plain value)
+own_special c (x.Augment t op e) = target_special c t || special c plain e
+own_special c (x.While test body) = special c plain test
+own_special c (x.For t e body) = target_special c t || special c plain e
+own_special c (x.Def (x.Defined name params result body)) = forbidden_binding c name || signature_special c params result
+own_special c (x.Class (x.Classed name base body)) = forbidden_binding c name || maybe_special c plain base
+own_special c _ = false
 
-  pub kind_lines : Context → ℕ → Kind → List ℕ
-  kind_lines c line (x.Return value) = at line (maybe_special c plain value)
-  kind_lines c line (x.Raise value) = at line (maybe_special c plain value)
-  kind_lines c line (x.Imports is) = at line (list_any (module_special c) is)
-  kind_lines c line (x.From from is) = at line (from_special c from is)
-  kind_lines c line (x.Eval e) = at line (special c plain e)
-  kind_lines c line (x.Assign t e) = at line (target_special c t || special c plain e)
-  kind_lines c line (x.Annotate t kind value) = at line (target_special c t || (special c typed kind || maybe_special c plain value))
-  kind_lines c line (x.Augment t op e) = at line (target_special c t || special c plain e)
-  kind_lines c line (x.If tested orelse) = branches_lines c tested ++ special_lines c orelse
-  kind_lines c line (x.While test body) = at line (special c plain test) ++ special_lines c body
-  kind_lines c line (x.For t e body) = at line (target_special c t || special c plain e) ++ special_lines c body
-  kind_lines c line (x.Try body handlers) = special_lines c body ++ clauses_lines c line handlers
-  kind_lines c line (x.Def (x.Defined name params result body)) =
-      at line (forbidden_binding c name || signature_special c params result) ++ special_lines (in_function_body c (x.Defined name params result body)) body
-  kind_lines c line (x.Class (x.Classed name base body)) = at line (forbidden_binding c name || maybe_special c plain base) ++ member_lines (in_class_body c) body
-  kind_lines c line _ = []
+-- a condition has the line of its `if` or `elif`
+abbrev pub branch_lines : Context → Branches → List ℕ
+branch_lines c x.end_of_branches = []
+branch_lines c (x.more_branches (x.Tested line test body) rest) = at line (special c plain test) ++ branch_lines c rest
 
-  -- a condition has the line of its `if` or `elif`
-  pub branches_lines : Context → Branches → List ℕ
-  branches_lines c x.end_of_branches = []
-  branches_lines c (x.more_branches (x.Tested line test body) rest) = at line (special c plain test) ++ (special_lines c body ++ branches_lines c rest)
+-- an except clause has the line of its `try`
+abbrev pub clause_lines : Context → ℕ → Clauses → List ℕ
+clause_lines c line x.end_of_clauses = []
+clause_lines c line (x.more_clauses (x.Except matches name body) rest) = at line (maybe_special c plain matches || maybe_forbidden c name) ++ clause_lines c line rest
 
-  -- an except clause has the line of its `try`
-  pub clauses_lines : Context → ℕ → Clauses → List ℕ
-  clauses_lines c line x.end_of_clauses = []
-  clauses_lines c line (x.more_clauses (x.Except matches name body) rest) =
-      at line (maybe_special c plain matches || maybe_forbidden c name) ++ (special_lines c body ++ clauses_lines c line rest)
+abbrev pub part_lines : Context → ℕ → Kind → List ℕ
+part_lines c line (x.If tested orelse) = branch_lines c tested
+part_lines c line (x.Try body handlers) = clause_lines c line handlers
+part_lines c line _ = []
 
-  -- in a class body
-  pub member_lines : Context → Statements → List ℕ
-  member_lines c x.end_of_statements = []
-  member_lines c (x.more_statements (x.On line (x.Annotate (x.ToName name) kind value)) rest) =
-      at line (forbidden_field c name || (special c typed kind || maybe_special c plain value)) ++ member_lines c rest
-  member_lines c (x.more_statements (x.On line (x.Def (x.Defined name params result body))) rest) =
-      at line (forbidden_method c name || signature_special c params result) ++ (special_lines (in_function_body c (x.Defined name params result body)) body ++ member_lines c rest)
-  member_lines c (x.more_statements other rest) = member_lines c rest
+abbrev pub own_lines : Context → Statement → List ℕ
+own_lines c (x.On line kind) = at line (own_special c kind) ++ part_lines c line kind
+
+abbrev pub scope_lines : Context → Statements → List ℕ
+scope_lines c body = flat_map (own_lines c) (of_scope body)
+
+-- in the body of a function
+abbrev pub body_lines : Context → Function → List ℕ
+body_lines c (x.Defined name params result body) = scope_lines (in_function_body c params body) body
+
+-- a field is a name
+abbrev pub field_special : Context → Target → Bool
+field_special c (x.ToName name) = forbidden_field c name
+field_special c target = false
+
+abbrev pub method_lines : Context → ℕ → Function → List ℕ
+method_lines c line (x.Defined name params result body) =
+    at line (forbidden_method c name || signature_special c params result) ++ body_lines c (x.Defined name params result body)
+
+-- in a class body
+abbrev pub member_lines : Context → Statement → List ℕ
+member_lines c (x.On line (x.Annotate t kind value)) = at line (field_special c t || (special c typed kind || maybe_special c plain value))
+member_lines c (x.On line (x.Def f)) = method_lines c line f
+member_lines c other = []
+
+abbrev pub within_class : Context → ClassDef → List ℕ
+within_class c (x.Classed name base body) = flat_map (member_lines (in_class_body c)) (of_scope body)
+
+-- in what a statement of the module defines
+abbrev pub within_lines : Context → Kind → List ℕ
+within_lines c (x.Def f) = body_lines c f
+within_lines c (x.Class class) = within_class c class
+within_lines c other = []
+
+abbrev pub module_lines : Context → Statement → List ℕ
+module_lines c (x.On line kind) = own_lines c (x.On line kind) ++ within_lines c kind
+
+-- the lines of such faults in a module, in its functions and in its classes; defs and classes stand in no function
+abbrev pub special_lines : Context → Statements → List ℕ
+special_lines c body = flat_map (module_lines c) (of_scope body)

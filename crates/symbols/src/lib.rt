@@ -1,5 +1,30 @@
 //! Names: which binding each name of a module has, the classes with their slots and methods, the functions with their locals.
 #![tactic(auto)]
 
+mod bases;
 pub mod binding;
+mod bindings;
+mod bound_names;
+pub mod class;
+mod class_faults;
+mod classes;
+mod context;
+mod first_fault;
+mod functions;
+mod imports;
+mod kinds;
+mod module_uses;
+mod name_map;
+mod names;
 pub mod outer;
+mod parts;
+mod repeats;
+pub mod resolve;
+pub mod resolved;
+mod scope;
+mod special;
+mod special_lines;
+mod special_parts;
+pub mod static_use;
+mod uses;
+mod words;

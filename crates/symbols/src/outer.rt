@@ -1,7 +1,6 @@
+use crate::class::ClassKind;
 use lists::Items;
-use py_tree::expression::Texts;
 use py_tree::text::Text;
-use py_values::class_id::ClassId;
 
 /// What a module's names are resolved against: its own name and number, and what its imports bind.
 #[derive(Drop)]
@@ -28,14 +27,6 @@ pub enum OuterKind {
     Class(ClassKind),
     Module(ModuleClasses),
     Other,
-}
-
-/// A class with all its slots and methods, those of its bases among them.
-#[derive(Drop)]
-pub struct ClassKind {
-    pub id: ClassId,
-    pub slots: Texts,
-    pub methods: Texts,
 }
 
 /// The globals of a module that hold classes.

@@ -1,10 +1,7 @@
-use Rattle.std.proofs.Common.{◌≡◌, length}
-use Rattle.py_expr.specs.Machine.{no_repeats}
+use Rattle.std.proofs.Common.{take}
 use Rattle.py_expr.specs.Views.{texts_of}
+use Rattle.py_expr.proofs.SeenNames.{Seen}
 use Rattle.py_expr.proofs.call.no_repeats.Given as goal
 
 abbrev pub invariant-loop-name : goal.invariant-loop-name
-invariant-loop-name l = no_repeats (texts_of l.earlier.items) ≡ no_repeats (texts_of l.fn.names.items)
-
-abbrev pub decreases-loop-name : goal.decreases-loop-name
-decreases-loop-name l = length l.earlier.items
+invariant-loop-name l = Seen (texts_of (take l.name-index l.names)) l.seen

@@ -14,5 +14,5 @@ returns-in_default-3 c =
 
 pub returns : goal.returns
 returns c =
-    parameter_found c.args.tokens.now c.in-Some.rest.now c.in-Some-2.kind.rest.now c.in-Some-3.default.rest.now c.in-Some.name.now c.in-Some-2.kind.built c.in-Some-3.default.built c.in_ok-built_parameter.field-0
-    c.in-Some.ensures (some_found c.in-Some-2.is c.in_ok-kind.ensures) (some_found c.in-Some-3.is c.in_ok-default.ensures) c.in_ok-built_parameter.ensures
+    parameter_found c.args.tokens.now c.in-Some.rest.now c.in-Some-2.kind.rest.now c.in-Some-3.default.rest.now c.in-Some.name.now c.in-Some-2.kind.built c.in-Some-3.default.built c.in_ok-built_parameter.field-0 c.begins_default.result
+    c.in-Some.ensures (some_found c.in-Some-2.is c.in_ok-kind.ensures) (some_found c.in-Some-3.is c.in_ok-default.ensures) c.begins_default.ensures c.in_ok-built_parameter.ensures

@@ -1,0 +1,94 @@
+#!/usr/bin/env python3
+"""Times the reading of one long line of tokens, at 25,000 tokens and at two, four and eight times as many. It prints a row of
+a table for each kind of line: the milliseconds of the processor, and how many times the longest takes as long as half of
+it. It builds the program below over a copy of the crates that it needs."""
+import os, re, shutil, subprocess, sys, tempfile
+
+TOP = os.path.dirname(os.path.dirname(os.path.abspath(__file__)))
+SIZES = [25_000, 50_000, 100_000, 200_000]
+BELOW = ["lists", "py_tree", "py_lexer", "py_expr"]
+PROGRAM = r"""//! Reads each line on standard input some times, and prints its tokens and the least microseconds that one reading took.
+#![tactic(auto)]
+
+use py_expr::phrase::list_at;
+use py_lexer::lex::lex;
+use py_lexer::token::Token;
+use std::alloc::{AllocError, Global};
+use std::io::{self, Read};
+use std::time::CpuClock;
+
+fn is_read(alloc: Global, tokens: &[Token]) -> Result<bool, AllocError> {
+    let Some(phrase) = list_at(alloc, tokens)? else {
+        return Ok(false);
+    };
+    let _ = phrase.expression(alloc)?;
+    Ok(true)
+}
+
+fn main(rt: HostRuntime) -> io::Result<()> {
+    let alloc = rt.alloc();
+    let mut text = Vec::new(alloc);
+    let _ = rt.reader().read_to_end(&mut text)?;
+    for line in text.split(|byte| *byte == b'\n') {
+        let Ok(lines) = lex(alloc, line) else {
+            return Ok(());
+        };
+        for line in lines.as_slice() {
+            let mut least = u128::MAX;
+            for _ in 0..5 {
+                let before = rt.process_cpu_time()?;
+                if !is_read(alloc, line.tokens.as_slice())? {
+                    return Ok(());
+                }
+                let took = rt.process_cpu_time()?.saturating_sub(before);
+                least = least.min(took.as_micros());
+            }
+            println!(rt; "{} {}", line.tokens.len(), least)?;
+        }
+    }
+    Ok(())
+}
+"""
+
+
+def filled(begins, part, between, ends, each, size):
+    """A line of about that many tokens, `each` for a part with what stands between."""
+    return begins + between.join(part.replace("#", str(n)) for n in range(size // each)) + ends + "\n"
+
+
+LINES = {
+    "`a + a + ..`": lambda size: filled("", "a", " + ", "", 2, size),
+    "`a.b.c..`": lambda size: filled("", "a", ".", "", 2, size),
+    "`f(1, 2, ..)`": lambda size: filled("f(", "#", ", ", ")", 2, size),
+    "`f(k1=1, k2=2, ..)`": lambda size: filled("f(", "k#=#", ", ", ")", 4, size),
+    "`'a' 'a' ..`": lambda size: filled("", "'a'", " ", "", 1, size),
+    "`a, a, ..`": lambda size: filled("", "a", ", ", "", 2, size),
+    "`{1: 1, 2: 2, ..}`": lambda size: filled("{", "#: #", ", ", "}", 4, size),
+    "`a[0][0]..`": lambda size: filled("a", "[0]", "", "", 3, size),
+}
+
+
+def build(room):
+    """The program's crate, beside copies of those that it needs."""
+    for name in BELOW:
+        shutil.copytree(os.path.join(TOP, "crates", name), os.path.join(room, "crates", name), ignore=shutil.ignore_patterns("incremental"))
+    with open(os.path.join(TOP, "crates.txt")) as file:
+        lines = [line for line in file if line.split(":")[0] in BELOW]
+    with open(os.path.join(room, "crates.txt"), "w") as file:
+        file.writelines([*lines, "line_times: " + " ".join(BELOW) + " sqlite_items\n"])
+    crate = os.path.join(room, "crates", "line_times")
+    os.makedirs(os.path.join(crate, "src"))
+    with open(os.path.join(crate, "src", "main.rt"), "w") as file:
+        file.write(PROGRAM)
+    return crate
+
+
+with tempfile.TemporaryDirectory() as room:
+    text = "".join(line(size) for line in LINES.values() for size in SIZES)
+    ran = subprocess.run(["rt", "run"], cwd=build(room), input=text, stdout=subprocess.PIPE, stderr=subprocess.STDOUT, text=True)
+times = [int(micros) / 1000 for micros in re.findall(r"(?m)^\d+ (\d+)$", ran.stdout)]
+if len(times) != len(SIZES) * len(LINES):
+    sys.exit(ran.stdout + "\nbench/lines.py: a line was not read")
+for place, name in enumerate(LINES):
+    row = times[place * len(SIZES) :][: len(SIZES)]
+    print(f"| {name} | " + " | ".join(f"{time:.1f} ms" for time in row) + f" | {row[-1] / row[-2]:.1f} |")

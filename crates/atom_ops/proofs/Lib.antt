@@ -1,0 +1,4 @@
+pub mod Division
+pub mod OneQuotient
+pub mod Results
+mod Examples

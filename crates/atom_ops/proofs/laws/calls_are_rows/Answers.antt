@@ -1,0 +1,12 @@
+use Rattle.std.proofs.Common.{refl}
+use Rattle.atom_ops.proofs.laws.calls_are_rows.Goals as goal
+
+pub returns : goal.returns
+returns c =
+    record {
+      int_op = λ op a b. refl;
+      int_neg = λ a. refl;
+      prim_op = λ op a b. refl;
+      compare_text = λ op a b. refl;
+      read_int = λ text. refl;
+    }

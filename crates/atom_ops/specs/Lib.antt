@@ -1,0 +1,5 @@
+pub mod Floored
+pub mod Arithmetic
+pub mod Texts
+pub mod IntTexts
+pub mod Operators

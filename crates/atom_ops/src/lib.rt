@@ -1,0 +1,13 @@
+//! The rows of the operator table that ask for no object: arithmetic of `int` and `int64`, the order and `repr` of texts, and the
+//! reading of an `int` from a text.
+#![tactic(auto)]
+
+pub mod arithmetic;
+#[cfg(test)]
+mod edges;
+mod floored;
+pub mod laws;
+pub mod read_int;
+#[cfg(test)]
+mod tests;
+pub mod text;

@@ -1,0 +1,4 @@
+pub mod Keys
+pub mod Hashed
+pub mod KeyLaws
+pub mod Entries

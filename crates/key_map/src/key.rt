@@ -1,0 +1,53 @@
+ghost use Rattle.std.specs.Cmp.{IsEquivalence, partial_equiv_from_equiv};
+ghost use Rattle.key_map.specs.Keys.{key_of, same};
+ghost use Rattle.key_map.specs.Hashed.{writes};
+ghost use Rattle.key_map.specs.KeyLaws.{keys_equivalent, alike_writes};
+
+use crate::hashing::feed;
+use crate::same::are_same;
+use sqlite_items::Items;
+use std::hash::{Hash, Hasher};
+
+/// The numbers that keys have: those of `int`.
+pub type KeyInt = i64;
+
+/// The code points of a text that is a key.
+pub type KeyText = Items<char>;
+
+/// The items of a tuple that is a key.
+pub type Keys = Items<Key>;
+
+/// A key of a dictionary. `True` is the key 1, and `False` the key 0.
+#[cycle(key)]
+#[derive(Drop)]
+pub enum Key {
+    /// The constant `None`.
+    Nil,
+    Int(KeyInt),
+    Str(KeyText),
+    Tuple(Keys),
+}
+
+impl PartialEq for Key {
+    ghost eq = { λ a b. same (key_of a) (key_of b) };
+
+    ghost laws = { partial_equiv_from_equiv keys_equivalent };
+
+    fn eq(&self, other: &Key) -> bool {
+        are_same(self, other)
+    }
+}
+
+impl Eq for Key {
+    ghost laws = { keys_equivalent };
+}
+
+impl Hash for Key {
+    ghost hash_input = { λ key. writes (key_of key) };
+
+    ghost respects_eq = { alike_writes };
+
+    fn hash<H: Hasher>(&self, state: &mut H) {
+        feed(self, state);
+    }
+}

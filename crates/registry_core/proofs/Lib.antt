@@ -1,0 +1,9 @@
+pub mod SlotLaws
+pub mod Decided
+pub mod Events
+pub mod Keeps
+pub mod Whole
+pub mod Progress
+pub mod Gathered
+pub mod Lists
+pub mod Runs

@@ -1,0 +1,11 @@
+pub mod Slots
+pub mod Machine
+pub mod Imports
+pub mod Stored
+pub mod Verdicts
+pub mod Right
+pub mod View
+pub mod Named
+pub mod Answer
+pub mod Kept
+pub mod Decision

@@ -1,0 +1,8 @@
+use Rattle.std.proofs.Common.{◌≡◌, drop, map}
+use Rattle.py_tree.specs.Joined.{param_of}
+use Rattle.symbols.specs.Bindings.{first_mentions, param_names}
+use Rattle.symbols.specs.Names.{with_names}
+use Rattle.symbols.proofs.functions.repeats.Given as goal
+
+abbrev pub invariant-loop-param : goal.invariant-loop-param
+invariant-loop-param l = with_names l.names (param_names (map param_of (drop l.param-index l.params))) ≡ first_mentions (param_names (map param_of l.params))

@@ -1,0 +1,9 @@
+use Rattle.std.proofs.Common.{◌≡◌, ◌++◌, drop}
+use Rattle.std.specs.List.{flat_map}
+use Rattle.symbols.specs.Contexts.{context_of}
+use Rattle.symbols.specs.Views.{seen}
+use Rattle.symbols.specs.SpecialNames.{own_lines}
+use Rattle.symbols.proofs.special_lines.put_each.Given as goal
+
+abbrev pub invariant-loop-statement : goal.invariant-loop-statement
+invariant-loop-statement l = l.lines ++ flat_map (own_lines (context_of l.context)) (seen (drop l.statement-index l.scope)) ≡ l.initial.lines ++ flat_map (own_lines (context_of l.context)) (seen l.scope)

@@ -1,0 +1,161 @@
+ghost use Rattle.std.specs.Prelude.{◌≡◌, true, IfOk, map};
+ghost use Rattle.py_tree.specs.Joined.{function_of, module_of, param_of, statements_of};
+ghost use Rattle.py_tree.specs.Lawful.{lawful};
+ghost use Rattle.symbols.specs.Answers.{Exact, IsResolved, Right};
+ghost use Rattle.symbols.specs.Bindings as spec;
+ghost use Rattle.symbols.specs.Bindings.{globals_in, locals};
+ghost use Rattle.symbols.specs.Classes.{classes_in};
+ghost use Rattle.symbols.specs.Functions.{locals_in};
+ghost use Rattle.symbols.specs.Located.{located};
+ghost use Rattle.symbols.specs.Parts.{IsPartsOf};
+
+use crate::bases::copy_texts;
+use crate::binding::Binding;
+use crate::bindings::bindings_of;
+use crate::bound_names::{globals_of, locals_of};
+use crate::class::{Class, Classes, Found};
+use crate::classes::classes_of;
+use crate::functions::{FunctionAt, functions_of};
+use crate::imports::module_kind;
+use crate::module_uses::static_uses;
+use crate::outer::Outer;
+use crate::parts::Parts;
+use crate::resolved::{FunctionLocals, FunctionsLocals, Resolved};
+use crate::scope::scope_of;
+use py_tree::expression::{Param, Texts};
+use py_tree::fault::Stop;
+use py_tree::statement::{Function, Module, Stmt};
+use std::alloc::{AllocError, Global};
+
+/// The names of a module (Python reference: naming and binding). In time linear in its text, but for the slots and methods of classes,
+/// which are listed with those of their bases, and for the search of a base among the classes.
+///
+/// # Errors
+///
+/// The first fault of a name: on the least line, and of those on one line the one with the least code.
+pub fn resolve(alloc: Global, tree: &Module, outer: &Outer) -> Result<Resolved, Stop>
+    requires { lawful (module_of tree.now) ≡ true }
+    // What is answered is so.
+    ensures right { Right outer.now tree.now result }
+    // What is so is answered.
+    ensures exact { Exact outer.now tree.now result }
+{
+    let body = tree.body.as_slice();
+    let bindings = bindings_of(alloc, body)?;
+    let scope = scope_of(alloc, body)?;
+    let functions = functions_of(alloc, scope.as_slice())?;
+    let classes = classes_of(alloc, outer, scope.as_slice())?;
+    let parts = Parts {
+        body,
+        bindings: bindings.as_slice(),
+        scope: scope.as_slice(),
+        functions: functions.as_slice(),
+        classes: classes.as_slice(),
+    };
+    resolve_parts(alloc, tree, outer, &parts)
+}
+
+fn resolve_parts(
+    alloc: Global,
+    tree: &Module,
+    outer: &Outer,
+    parts: &Parts<'_>,
+) -> Result<Resolved, Stop>
+    requires lawful { lawful (module_of tree.now) ≡ true }
+    requires parts { IsPartsOf outer.now (module_of tree.now) parts.now }
+    ensures right { Right outer.now tree.now result }
+    ensures exact { Exact outer.now tree.now result }
+{
+    if let Some(fault) = parts.first_fault(alloc)? {
+        return Err(Stop::Fault(fault));
+    }
+    Ok(listed(alloc, tree, outer, parts)?)
+}
+
+/// The lists of a module's names.
+fn listed(
+    alloc: Global,
+    tree: &Module,
+    outer: &Outer,
+    parts: &Parts<'_>,
+) -> Result<Resolved, AllocError>
+    requires lawful { lawful (module_of tree.now) ≡ true }
+    requires parts { IsPartsOf outer.now (module_of tree.now) parts.now }
+    ensures { IfOk result (IsResolved outer.now tree.now) }
+{
+    let globals = global_names(alloc, parts.bindings)?;
+    let classes = copy_classes(alloc, parts.classes)?;
+    let functions = locals_of_all(alloc, parts.functions)?;
+    let statics = static_uses(alloc, parts.bindings, parts.scope)?;
+    let name = outer.name.copy(alloc)?;
+    let copy = tree.copy(alloc)?;
+    Ok(Resolved {
+        tree: copy,
+        name,
+        number: outer.number,
+        kind: module_kind(parts.body),
+        globals,
+        classes,
+        functions,
+        statics,
+    })
+}
+
+fn global_names(alloc: Global, bindings: &[Binding]) -> Result<Texts, AllocError>
+    ensures { IfOk result (λ names. names ≡ globals_in bindings.now) }
+{
+    let names = globals_of(alloc, bindings)?;
+    names.texts(alloc)
+}
+
+fn copy_classes(alloc: Global, found: &[Found]) -> Result<Classes, AllocError>
+    ensures { IfOk result (λ classes. classes ≡ classes_in found.now) }
+{
+    let mut classes = Classes::new(alloc);
+    for known in found {
+        classes.push(known.class.copy(alloc)?)?;
+    }
+    Ok(classes)
+}
+
+impl Class {
+    /// An equal one.
+    pub fn copy(&self, alloc: Global) -> Result<Class, AllocError>
+        ensures equal { IfOk result (λ copy. copy ≡ self.now) }
+    {
+        Ok(Class {
+            name: self.name.copy(alloc)?,
+            line: self.line,
+            base: self.base,
+            kind: self.kind.copy(alloc)?,
+            methods: copy_texts(alloc, self.methods.as_slice())?,
+        })
+    }
+}
+
+fn locals_of_all(alloc: Global, functions: &[FunctionAt<'_>]) -> Result<FunctionsLocals, AllocError>
+    ensures { IfOk result (λ all. all ≡ locals_in (located functions.now)) }
+{
+    let mut all = FunctionsLocals::new(alloc);
+    for known in functions {
+        all.push(FunctionLocals {
+            line: known.line,
+            locals: locals_of_function(alloc, known.function)?,
+        })?;
+    }
+    Ok(all)
+}
+
+fn locals_of_function(alloc: Global, function: &Function) -> Result<Texts, AllocError>
+    ensures { IfOk result (λ names. names ≡ locals (function_of function.now)) }
+{
+    local_names(alloc, function.params.as_slice(), function.body.as_slice())
+}
+
+fn local_names(alloc: Global, params: &[Param], body: &[Stmt]) -> Result<Texts, AllocError>
+    ensures { IfOk result (λ names. names ≡ spec.locals_of (map param_of params.now) (statements_of body.now)) }
+{
+    let bindings = bindings_of(alloc, body)?;
+    let names = locals_of(alloc, params, bindings.as_slice())?;
+    names.texts(alloc)
+}
