@@ -6,11 +6,11 @@ import os, re, shutil, subprocess, sys, tempfile
 
 TOP = os.path.dirname(os.path.dirname(os.path.abspath(__file__)))
 SIZES = [25_000, 50_000, 100_000, 200_000]
-BELOW = ["lists", "py_tree", "py_lexer", "py_expr"]
+BELOW = ["lists", "py_tree", "py_lexer", "py_phrases"]
 PROGRAM = r"""//! Reads each line on standard input some times, and prints its tokens and the least microseconds that one reading took.
 #![tactic(auto)]
 
-use py_expr::phrase::list_at;
+use py_phrases::phrase::list_at;
 use py_lexer::lex::lex;
 use py_lexer::token::Token;
 use std::alloc::{AllocError, Global};

@@ -8,5 +8,3 @@ pub mod form_line;
 pub mod laws;
 mod open_block;
 mod placing;
-#[cfg(test)]
-mod tests;

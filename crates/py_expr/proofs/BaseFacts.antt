@@ -6,9 +6,9 @@ use Rattle.py_tree.specs.Joined.{expression_of, maybe_of}
 use Rattle.py_tree.specs.declared.expression.Expr.{Expr}
 use Rattle.py_lexer.specs.declared.token.Token.TheVariants as token
 use Rattle.py_expr.specs.declared.found.Found as reading
-use Rattle.py_expr.specs.declared.phrase.Built.TheVariants.{Shallow}
-use Rattle.py_expr.specs.Tokens as t
-use Rattle.py_expr.specs.Grammar.{Tokens}
+use Rattle.py_phrases.specs.declared.phrase.Built.TheVariants.{Shallow}
+use Rattle.py_phrases.specs.Tokens as t
+use Rattle.py_phrases.specs.Grammar.{Tokens}
 use Rattle.py_expr.specs.Lines as l
 use Rattle.py_expr.specs.Lines.{Base}
 use Rattle.py_expr.specs.LineEnds.{Anything}

@@ -6,17 +6,16 @@ use Rattle.py_tree.specs.Joined.{target_of}
 use Rattle.py_tree.specs.declared.expression.Target as tree
 use Rattle.py_tree.specs.declared.expression.Target.TheVariants as made
 use Rattle.py_lexer.specs.declared.token.Token.TheVariants as token
-use Rattle.py_expr.specs.declared.phrase.Built.TheVariants.{Shallow}
-use Rattle.py_expr.specs.Tokens as t
-use Rattle.py_expr.specs.Grammar.{Tokens}
-use Rattle.py_expr.specs.Lines as l
-use Rattle.py_expr.specs.Lines.{Many, Names}
-use Rattle.py_expr.specs.Depth.{target_nesting}
+use Rattle.py_phrases.specs.declared.phrase.Built.TheVariants.{Shallow}
+use Rattle.py_phrases.specs.Tokens as t
+use Rattle.py_phrases.specs.Grammar.{Tokens}
 use Rattle.py_expr.specs.LineEnds.{Anything}
 use Rattle.py_expr.specs.Runs.{NameList, name_list, names_at, target_from}
 use Rattle.py_expr.specs.Readings.{IsFound, BeforeIn, InParentheses}
 use Rattle.py_expr.proofs.NameLists.{Shape, nothing, single, single_and_comma, several, shape, many_is_read, last_name, same_names, same_comma, same_rest}
 use Rattle.py_expr.proofs.OneForm.{behind}
+use Rattle.py_phrases.specs.Targets as target
+use Rattle.py_phrases.specs.Targets.{Many, Names, target_nesting}
 
 some_one : {A : Type 0} {a b : A} → Some a ≡ Some b → a ≡ b
 some_one h = cc
@@ -33,13 +32,13 @@ record ReadsParentheses (s r : Tokens) (z : Target) : Type 0 where
   enough : 2 ≤ length names
 
 enough_names : {s r : Tokens} {names : List Text} → Many s r names → 2 ≤ length names
-enough_names l.two_names = omega arith
-enough_names l.two_names_and_comma = omega arith
-enough_names (l.another_name m) = let h = enough_names m in omega (arith, h)
+enough_names target.two_names = omega arith
+enough_names target.two_names_and_comma = omega arith
+enough_names (target.another_name m) = let h = enough_names m in omega (arith, h)
 
 reads_parentheses : (s r : Tokens) (z : Target) → InParentheses s r z → ReadsParentheses s r z
-reads_parentheses s r _ (l.many_names m) = elim m [ ]
-reads_parentheses s r _ (l.names_in_parentheses {names = names} m) =
+reads_parentheses s r _ (target.many_names m) = elim m [ ]
+reads_parentheses s r _ (target.names_in_parentheses {names = names} m) =
     let x = many_is_read false s (t.right_paren ∷ t.in_ ∷ r) names m tt in
     record { names = names; last = x.last; is_target = refl; is_read = x.is_read; enough = enough_names m }
 
@@ -50,7 +49,7 @@ parentheses_stand names last s r _ (single_and_comma {a = a}) h few = let e : a 
 parentheses_stand names last s r _ (several {a = a} {b = b} {ns = ns} {r = q} m) h few =
     let e : a ∷ b ∷ ns ≡ names = same_names h in
     let p : q ≡ t.right_paren ∷ t.in_ ∷ r = same_rest h in
-    l.names_in_parentheses (subst (λ z. Many s z names) p (subst (λ z. Many s q z) e m))
+    target.names_in_parentheses (subst (λ z. Many s z names) p (subst (λ z. Many s q z) e m))
 
 pub parentheses_found : (s m n r : Tokens) (names : List Text) (comma : Bool) → name_list names comma m ≡ names_at false s → 2 ≤ length names → m ≡ t.right_paren ∷ n → n ≡ t.in_ ∷ r
     → IsFound InParentheses Anything target_of target_nesting s (Shallow (made.Names names)) r
@@ -85,18 +84,18 @@ record ReadsBare (s r : Tokens) (z : Target) : Type 0 where
   is_read : names_at false s ≡ name_list names last (t.in_ ∷ r)
 
 many_target : {s r : Tokens} {names : List Text} (last : Bool) → Many s r names → target_from last names ≡ Some (syntax.ToNames names)
-many_target last l.two_names = refl
-many_target last l.two_names_and_comma = refl
-many_target last (l.another_name l.two_names) = refl
-many_target last (l.another_name l.two_names_and_comma) = refl
-many_target last (l.another_name (l.another_name m)) = refl
+many_target last target.two_names = refl
+many_target last target.two_names_and_comma = refl
+many_target last (target.another_name target.two_names) = refl
+many_target last (target.another_name target.two_names_and_comma) = refl
+many_target last (target.another_name (target.another_name m)) = refl
 
 reads_bare : (s r : Tokens) (z : Target) → ((q : Tokens) → s ≡ t.left_paren ∷ q → ⊥) → BeforeIn s r z → ReadsBare s r z
-reads_bare _ r _ bare (l.one_name {a = a}) = record { names = a ∷ []; last = false; is_target = refl; is_read = last_name false a (t.in_ ∷ r) tt }
-reads_bare s r _ bare (l.many_names {names = names} m) =
+reads_bare _ r _ bare (target.one_name {a = a}) = record { names = a ∷ []; last = false; is_target = refl; is_read = last_name false a (t.in_ ∷ r) tt }
+reads_bare s r _ bare (target.many_names {names = names} m) =
     let x = many_is_read false s (t.in_ ∷ r) names m tt in
     record { names = names; last = x.last; is_target = many_target x.last m; is_read = x.is_read }
-reads_bare _ r _ bare (l.names_in_parentheses {s = s} m) = absurd (bare s refl)
+reads_bare _ r _ bare (target.names_in_parentheses {s = s} m) = absurd (bare s refl)
 
 bare_stands : (names : List Text) (last : Bool) (s r : Tokens) (z : Target) (l' : NameList) → Shape false s l' → l' ≡ name_list names last (t.in_ ∷ r) → target_from last names ≡ Some z → BeforeIn s r z
 bare_stands names last s r z _ nothing h is = let e : [] ≡ names = same_names h in absurd (none_some (subst (λ z'. target_from last z' ≡ Some z) (sym e) is))
@@ -106,7 +105,7 @@ bare_stands names last _ r z _ (single {a = a} {r = q}) h is =
     let p : q ≡ t.in_ ∷ r = same_rest h in
     let f : Some (syntax.ToName a) ≡ Some z = subst (λ z'. target_from z' (a ∷ []) ≡ Some z) (sym c) (subst (λ z'. target_from last z' ≡ Some z) (sym e) is) in
     let g : syntax.ToName a ≡ z = some_one f in
-    subst (λ y. BeforeIn (token.Name a ∷ y) r z) (sym p) (subst (λ y. BeforeIn (token.Name a ∷ t.in_ ∷ r) r y) g l.one_name)
+    subst (λ y. BeforeIn (token.Name a ∷ y) r z) (sym p) (subst (λ y. BeforeIn (token.Name a ∷ t.in_ ∷ r) r y) g target.one_name)
 bare_stands names last _ r z _ (single_and_comma {a = a} {r = q}) h is =
     let e : a ∷ [] ≡ names = same_names h in
     let c : true ≡ last = same_comma h in
@@ -117,7 +116,7 @@ bare_stands names last s r z _ (several {a = a} {b = b} {ns = ns} {last = w} {r 
     let p : q ≡ t.in_ ∷ r = same_rest h in
     let f : Some (syntax.ToNames (a ∷ b ∷ ns)) ≡ Some z = subst (λ z'. target_from last z' ≡ Some z) (sym e) is in
     let g : syntax.ToNames (a ∷ b ∷ ns) ≡ z = some_one f in
-    subst (λ y. BeforeIn s r y) g (l.many_names (subst (λ y. Many s y (a ∷ b ∷ ns)) p m))
+    subst (λ y. BeforeIn s r y) g (target.many_names (subst (λ y. Many s y (a ∷ b ∷ ns)) p m))
 
 names_deep : (last : Bool) (names : List Text) (z : Target) → target_from last names ≡ Some z → target_nesting z ≤ 200
 names_deep last [] z h = absurd cc

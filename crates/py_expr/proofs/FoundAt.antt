@@ -7,14 +7,14 @@ use Rattle.py_tree.specs.declared.expression.Param as tree
 use Rattle.py_tree.specs.declared.expression.Expr.{Expr}
 use Rattle.py_lexer.specs.declared.token.Token.TheVariants as token
 use Rattle.py_lexer.specs.declared.token.Mark.TheVariants as mark
-use Rattle.py_expr.specs.declared.phrase.Phrase.{Phrase}
-use Rattle.py_expr.specs.declared.phrase.Built.{Built}
-use Rattle.py_expr.specs.declared.phrase.Built.TheVariants.{Shallow, TooDeep}
+use Rattle.py_phrases.specs.declared.phrase.Phrase.{Phrase}
+use Rattle.py_phrases.specs.declared.phrase.Built.{Built}
+use Rattle.py_phrases.specs.declared.phrase.Built.TheVariants.{Shallow, TooDeep}
 use Rattle.py_expr.specs.declared.found.Found as reading
-use Rattle.py_expr.specs.Tokens as t
-use Rattle.py_expr.specs.Grammar.{Tokens, Level, E, Spells}
-use Rattle.py_expr.specs.Ends.{IsEnd}
-use Rattle.py_expr.specs.Phrases.{Is, AtFront, IsExpression, BuildsExpression}
+use Rattle.py_phrases.specs.Tokens as t
+use Rattle.py_phrases.specs.Grammar.{Tokens, Level, E, Spells}
+use Rattle.py_phrases.specs.Ends.{IsEnd}
+use Rattle.py_phrases.specs.Phrases.{Is, AtFront, IsExpression, BuildsExpression}
 use Rattle.py_expr.specs.Lines as l
 use Rattle.py_expr.specs.Lines.{Annotation, Default, Parameter, Result}
 use Rattle.py_expr.specs.LineEnds.{Anything, EndsAnnotation, EndsParameter}
@@ -22,7 +22,7 @@ use Rattle.py_expr.specs.Depth.{maybe_nesting, param_nesting}
 use Rattle.py_expr.specs.Readings.{Same, IsBuilt, FoundAt, IsFound, BeforeColon, built_on, both_built}
 use Rattle.py_expr.specs.Signatures.{IsParam, begins_default}
 use Rattle.py_expr.proofs.OneForm.{annotation_ends, parameter_ends, default_begins}
-use Rattle.py_expr.proofs.Builds.{one_front}
+use Rattle.py_phrases.proofs.Builds.{one_front}
 
 expression_built : (e : Expression) (b : Built Expr) → IsExpression e b → IsBuilt expression_of nesting e b
 expression_built e (Shallow made) h = h

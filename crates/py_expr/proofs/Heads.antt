@@ -15,23 +15,24 @@ use Rattle.py_expr.specs.declared.form.Head.TheVariants as made
 use Rattle.py_expr.specs.declared.found.Found as reading
 use Rattle.py_expr.specs.declared.head.Tested.{Tested}
 use Rattle.py_expr.specs.declared.head.Tested.TheVariants as tested
-use Rattle.py_expr.specs.declared.phrase.Built.{Built}
-use Rattle.py_expr.specs.declared.phrase.Built.TheVariants.{Shallow}
-use Rattle.py_expr.specs.Tokens as t
-use Rattle.py_expr.specs.Grammar.{Tokens, E, Spells}
-use Rattle.py_expr.specs.Ends.{IsEnd}
+use Rattle.py_phrases.specs.declared.phrase.Built.{Built}
+use Rattle.py_phrases.specs.declared.phrase.Built.TheVariants.{Shallow}
+use Rattle.py_phrases.specs.Tokens as t
+use Rattle.py_phrases.specs.Grammar.{Tokens, E, Spells}
+use Rattle.py_phrases.specs.Ends.{IsEnd}
 use Rattle.py_expr.specs.LineEnds.{Anything}
 use Rattle.py_expr.specs.Lines as l
 use Rattle.py_expr.specs.Lines.{HeadAt, Base}
-use Rattle.py_expr.specs.Depth.{maybe_nesting, params_nesting, target_nesting, head_nesting}
+use Rattle.py_expr.specs.Depth.{maybe_nesting, params_nesting, head_nesting}
 use Rattle.py_expr.specs.Forms as form
 use Rattle.py_expr.specs.Forms.{Head, head_of, params_of}
 use Rattle.py_expr.specs.Readings.{IsBuilt, IsFound, FoundAt, BeforeColon, BeforeIn, ListBeforeColon, IsNext, both_built}
 use Rattle.py_expr.specs.Signatures.{Signature}
 use Rattle.py_expr.specs.Heads.{HeadBehind, FoundBehind, DefBehind, IsBare, MakesHead, MakesFor, MakesDef, MakesClass, loop_of, loop_nesting, test_word, test_form}
 use Rattle.py_expr.proofs.OneForm.{OneFront, behind, begins, one_head}
-use Rattle.py_expr.proofs.Builds.{one_front}
+use Rattle.py_phrases.proofs.Builds.{one_front}
 use Rattle.py_expr.proofs.Wholes.{both_are}
+use Rattle.py_phrases.specs.Targets.{target_nesting}
 
 one : OneFront
 one k s r q d e y h z h' = let x = one_front y h z h' in record { thing = x.tree; rest = x.rest }

@@ -7,8 +7,8 @@ use Rattle.py_tree.specs.declared.statement.Import.{Import}
 use Rattle.py_lexer.specs.declared.token.Token.TheVariants as token
 use Rattle.py_lexer.specs.declared.token.Keyword.TheVariants as word
 use Rattle.py_lexer.specs.declared.token.Mark.TheVariants as mark
-use Rattle.py_expr.specs.Tokens as t
-use Rattle.py_expr.specs.Grammar.{Tokens}
+use Rattle.py_phrases.specs.Tokens as t
+use Rattle.py_phrases.specs.Grammar.{Tokens}
 use Rattle.py_expr.specs.Lines as l
 use Rattle.py_expr.specs.Lines.{Item, ImportItems, Taken}
 use Rattle.py_expr.specs.LineEnds.{EndsItem}

@@ -1,17 +1,3 @@
-pub mod Complete
-pub mod Sound
-pub mod WholeSound
-pub mod Builds
-pub mod Nested
-pub mod Names
-pub mod SeenNames
-pub mod Calling
-pub mod Reading
-pub mod Fronts
-pub mod Taking
-pub mod Answering
-pub mod TargetPhrases
-pub mod PhraseTargets
 pub mod OneForm
 pub mod ForNames
 pub mod FoundAt

@@ -4,15 +4,15 @@ use Rattle.py_tree.specs.declared.code.Code.TheVariants as code
 use Rattle.py_tree.specs.declared.fault.Stop.{Stop}
 use Rattle.py_tree.specs.declared.fault.Stop.TheVariants as stop
 use Rattle.py_expr.specs.declared.form.Form as tree
-use Rattle.py_expr.specs.declared.phrase.Built.{Built}
-use Rattle.py_expr.specs.declared.phrase.Built.TheVariants.{Shallow, TooDeep}
-use Rattle.py_expr.specs.Grammar.{Tokens}
+use Rattle.py_phrases.specs.declared.phrase.Built.{Built}
+use Rattle.py_phrases.specs.declared.phrase.Built.TheVariants.{Shallow, TooDeep}
+use Rattle.py_phrases.specs.Grammar.{Tokens}
 use Rattle.py_expr.specs.Forms.{Form, form_of}
 use Rattle.py_expr.specs.Depth.{form_nesting}
 use Rattle.py_expr.specs.Lines.{Line}
 use Rattle.py_expr.specs.Statements.{IsWhole}
 use Rattle.py_expr.specs.LineAnswers.{IsSo, IsAnswered}
-use Rattle.py_expr.proofs.Builds.{one_front}
+use Rattle.py_phrases.proofs.Builds.{one_front}
 use Rattle.py_expr.proofs.OneForm.{OneFront, one_line}
 
 one : OneFront

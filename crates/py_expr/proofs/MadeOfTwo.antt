@@ -8,12 +8,12 @@ use Rattle.py_tree.specs.declared.expression.Expr.{Expr}
 use Rattle.py_tree.specs.declared.expression.Target as tree
 use Rattle.py_tree.specs.declared.operator.BinaryOp.{BinaryOp}
 use Rattle.py_tree.specs.declared.statement.StmtKind as code
-use Rattle.py_expr.specs.declared.phrase.Built.{Built}
-use Rattle.py_expr.specs.declared.phrase.Built.TheVariants.{Shallow, TooDeep}
-use Rattle.py_expr.specs.Depth.{target_nesting}
+use Rattle.py_phrases.specs.declared.phrase.Built.{Built}
+use Rattle.py_phrases.specs.declared.phrase.Built.TheVariants.{Shallow, TooDeep}
 use Rattle.py_expr.specs.Readings.{IsBuilt}
 use Rattle.py_expr.specs.Statements.{parts_of, parts_nesting, MakesOfBoth, Annotates, annotation_of, annotated_of, annotated_nesting}
 use Rattle.py_expr.proofs.KindsOf.{assign_is, augment_is}
+use Rattle.py_phrases.specs.Targets.{target_nesting}
 
 pub assigned : (parts : Built (tree.Target × Expr)) (t : tree.Target) (v : Expr) → parts ≡ Shallow (t, v) → MakesOfBoth x.Assign parts (Shallow (code.Assign t v))
 assigned parts t v is g e h =

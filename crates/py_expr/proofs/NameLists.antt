@@ -3,12 +3,13 @@ use Rattle.std.proofs.Common.{◌≡◌, Bool, true, false, List, [], ◌∷◌,
 use Rattle.py_tree.specs.Syntax.{Text}
 use Rattle.py_lexer.specs.declared.token.Token.TheVariants as token
 use Rattle.py_lexer.specs.declared.token.Mark.TheVariants as mark
-use Rattle.py_expr.specs.Tokens as t
-use Rattle.py_expr.specs.Grammar.{Tokens}
+use Rattle.py_phrases.specs.Tokens as t
+use Rattle.py_phrases.specs.Grammar.{Tokens}
 use Rattle.py_expr.specs.Lines as l
-use Rattle.py_expr.specs.Lines.{Many}
 use Rattle.py_expr.specs.LineEnds.{EndsNames}
 use Rattle.py_expr.specs.Runs.{NameList, name_list, names_at, behind_names, with_name}
+use Rattle.py_phrases.specs.Targets as target
+use Rattle.py_phrases.specs.Targets.{Many}
 
 -- lists that are the same have the same parts
 pub same_names : {a b : NameList} → a ≡ b → a.names ≡ b.names
@@ -36,9 +37,9 @@ pub data Shape (comma : Bool) : Tokens → NameList → Type 0 where
 
 grown : (comma : Bool) (n : Text) (s : Tokens) (l : NameList) → Shape true s l → Shape comma (token.Name n ∷ t.comma ∷ s) (with_name n l)
 grown comma n _ _ nothing = single_and_comma
-grown comma n _ _ single = several l.two_names
-grown comma n _ _ single_and_comma = several l.two_names_and_comma
-grown comma n _ _ (several m) = several (l.another_name m)
+grown comma n _ _ single = several target.two_names
+grown comma n _ _ single_and_comma = several target.two_names_and_comma
+grown comma n _ _ (several m) = several (target.another_name m)
 
 pub shape : (comma : Bool) (s : Tokens) → Shape comma s (names_at comma s)
 shape comma (token.Name n ∷ token.Mark mark.Comma ∷ s) = grown comma n s (names_at true s) (shape true s)
@@ -59,7 +60,7 @@ pub record ReadsMany (comma : Bool) (s r : Tokens) (names : List Text) : Type 0 
   pub is_read : names_at comma s ≡ name_list names last r
 
 pub many_is_read : (comma : Bool) (s r : Tokens) (names : List Text) → Many s r names → EndsNames r → ReadsMany comma s r names
-many_is_read comma _ r _ (l.two_names {a = a} {b = b}) h = record { last = false; is_read = ap (with_name a) (last_name true b r h) }
-many_is_read comma _ r _ (l.two_names_and_comma {a = a} {b = b}) h = record { last = true; is_read = ap (λ z. with_name a (with_name b z)) (no_name true r h) }
-many_is_read comma _ r _ (l.another_name {s = s} {a = a} {names = names} m) h =
+many_is_read comma _ r _ (target.two_names {a = a} {b = b}) h = record { last = false; is_read = ap (with_name a) (last_name true b r h) }
+many_is_read comma _ r _ (target.two_names_and_comma {a = a} {b = b}) h = record { last = true; is_read = ap (λ z. with_name a (with_name b z)) (no_name true r h) }
+many_is_read comma _ r _ (target.another_name {s = s} {a = a} {names = names} m) h =
     let x = many_is_read true s r names m h in record { last = x.last; is_read = ap (with_name a) x.is_read }

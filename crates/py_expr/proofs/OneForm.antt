@@ -8,17 +8,19 @@ use Rattle.py_lexer.specs.declared.token.Token.{Token}
 use Rattle.py_lexer.specs.declared.token.Token.TheVariants as token
 use Rattle.py_lexer.specs.declared.token.Keyword.TheVariants as word
 use Rattle.py_lexer.specs.declared.token.Mark.TheVariants as mark
-use Rattle.py_expr.specs.Tokens as t
-use Rattle.py_expr.specs.Grammar as g
-use Rattle.py_expr.specs.Grammar.{Tokens, Level, P, E, L, Spells}
-use Rattle.py_expr.specs.Ends.{IsEnd}
+use Rattle.py_phrases.specs.Tokens as t
+use Rattle.py_phrases.specs.Grammar as g
+use Rattle.py_phrases.specs.Grammar.{Tokens, Level, P, E, L, Spells}
+use Rattle.py_phrases.specs.Ends.{IsEnd}
 use Rattle.py_expr.specs.Lines as l
-use Rattle.py_expr.specs.Lines.{Augmented, Many, Names, Place, Assigned, Annotation, Default, Parameter, Parameters, Result, Base, HeadAt, Item, ImportItems, Taken, Value, Simple, Line}
+use Rattle.py_expr.specs.Lines.{Augmented, Annotation, Default, Parameter, Parameters, Result, Base, HeadAt, Item, ImportItems, Taken, Value, Simple, Line}
 use Rattle.py_expr.specs.LineEnds.{EndsNames, EndsParameter, EndsAnnotation, EndsItem, EndsItems}
 use Rattle.py_expr.specs.Readings.{Same}
 use Rattle.py_expr.specs.Forms as form
-use Rattle.py_expr.proofs.TargetPhrases.{names_listed, as_phrase, primary_is, place_is, assigned_is}
+use Rattle.py_phrases.proofs.TargetPhrases.{names_listed, as_phrase, primary_is, place_is, assigned_is}
 use Rattle.py_expr.specs.Forms.{Form, Head}
+use Rattle.py_phrases.specs.Targets as target
+use Rattle.py_phrases.specs.Targets.{Many, Names, Place, Assigned}
 
 -- what one_front says of phrases
 abbrev pub OneFront : Type 0
@@ -90,42 +92,42 @@ begins (g.single d) = begins d
 -- ---- names
 
 pub one_many : (s r q : Tokens) (ns ms : List Text) → Many s r ns → EndsNames r → Many s q ms → EndsNames q → Same ns ms r q
-one_many _ _ _ _ _ l.two_names h l.two_names i = record { thing = refl; rest = refl }
-one_many _ _ _ _ _ l.two_names h l.two_names_and_comma i = absurd h
-one_many _ _ _ _ _ l.two_names h (l.another_name l.two_names) i = absurd h
-one_many _ _ _ _ _ l.two_names h (l.another_name l.two_names_and_comma) i = absurd h
-one_many _ _ _ _ _ l.two_names h (l.another_name (l.another_name m)) i = absurd h
-one_many _ _ _ _ _ l.two_names_and_comma h l.two_names i = absurd i
-one_many _ _ _ _ _ l.two_names_and_comma h l.two_names_and_comma i = record { thing = refl; rest = refl }
-one_many _ _ _ _ _ l.two_names_and_comma h (l.another_name l.two_names) i = absurd h
-one_many _ _ _ _ _ l.two_names_and_comma h (l.another_name l.two_names_and_comma) i = absurd h
-one_many _ _ _ _ _ l.two_names_and_comma h (l.another_name (l.another_name l.two_names)) i = absurd h
-one_many _ _ _ _ _ l.two_names_and_comma h (l.another_name (l.another_name l.two_names_and_comma)) i = absurd h
-one_many _ _ _ _ _ l.two_names_and_comma h (l.another_name (l.another_name (l.another_name m))) i = absurd h
-one_many _ _ _ _ _ (l.another_name l.two_names) h l.two_names i = absurd i
-one_many _ _ _ _ _ (l.another_name l.two_names_and_comma) h l.two_names i = absurd i
-one_many _ _ _ _ _ (l.another_name (l.another_name m)) h l.two_names i = absurd i
-one_many _ _ _ _ _ (l.another_name l.two_names) h l.two_names_and_comma i = absurd i
-one_many _ _ _ _ _ (l.another_name l.two_names_and_comma) h l.two_names_and_comma i = absurd i
-one_many _ _ _ _ _ (l.another_name (l.another_name l.two_names)) h l.two_names_and_comma i = absurd i
-one_many _ _ _ _ _ (l.another_name (l.another_name l.two_names_and_comma)) h l.two_names_and_comma i = absurd i
-one_many _ _ _ _ _ (l.another_name (l.another_name (l.another_name m))) h l.two_names_and_comma i = absurd i
-one_many _ r q _ _ (l.another_name {a = a} {names = ns} m) h (l.another_name {names = ms} n) i =
+one_many _ _ _ _ _ target.two_names h target.two_names i = record { thing = refl; rest = refl }
+one_many _ _ _ _ _ target.two_names h target.two_names_and_comma i = absurd h
+one_many _ _ _ _ _ target.two_names h (target.another_name target.two_names) i = absurd h
+one_many _ _ _ _ _ target.two_names h (target.another_name target.two_names_and_comma) i = absurd h
+one_many _ _ _ _ _ target.two_names h (target.another_name (target.another_name m)) i = absurd h
+one_many _ _ _ _ _ target.two_names_and_comma h target.two_names i = absurd i
+one_many _ _ _ _ _ target.two_names_and_comma h target.two_names_and_comma i = record { thing = refl; rest = refl }
+one_many _ _ _ _ _ target.two_names_and_comma h (target.another_name target.two_names) i = absurd h
+one_many _ _ _ _ _ target.two_names_and_comma h (target.another_name target.two_names_and_comma) i = absurd h
+one_many _ _ _ _ _ target.two_names_and_comma h (target.another_name (target.another_name target.two_names)) i = absurd h
+one_many _ _ _ _ _ target.two_names_and_comma h (target.another_name (target.another_name target.two_names_and_comma)) i = absurd h
+one_many _ _ _ _ _ target.two_names_and_comma h (target.another_name (target.another_name (target.another_name m))) i = absurd h
+one_many _ _ _ _ _ (target.another_name target.two_names) h target.two_names i = absurd i
+one_many _ _ _ _ _ (target.another_name target.two_names_and_comma) h target.two_names i = absurd i
+one_many _ _ _ _ _ (target.another_name (target.another_name m)) h target.two_names i = absurd i
+one_many _ _ _ _ _ (target.another_name target.two_names) h target.two_names_and_comma i = absurd i
+one_many _ _ _ _ _ (target.another_name target.two_names_and_comma) h target.two_names_and_comma i = absurd i
+one_many _ _ _ _ _ (target.another_name (target.another_name target.two_names)) h target.two_names_and_comma i = absurd i
+one_many _ _ _ _ _ (target.another_name (target.another_name target.two_names_and_comma)) h target.two_names_and_comma i = absurd i
+one_many _ _ _ _ _ (target.another_name (target.another_name (target.another_name m))) h target.two_names_and_comma i = absurd i
+one_many _ r q _ _ (target.another_name {a = a} {names = ns} m) h (target.another_name {names = ms} n) i =
     let x = one_many _ r q ns ms m h n i in record { thing = ap (λ names. a ∷ names) x.thing; rest = x.rest }
 
 pub one_names : (s r q : Tokens) (g' h' : Target) → Names s r g' → EndsNames r → Names s q h' → EndsNames q → Same g' h' r q
-one_names _ _ _ _ _ l.one_name i l.one_name j = record { thing = refl; rest = refl }
-one_names _ _ _ _ _ l.one_name i (l.many_names l.two_names) j = absurd i
-one_names _ _ _ _ _ l.one_name i (l.many_names l.two_names_and_comma) j = absurd i
-one_names _ _ _ _ _ l.one_name i (l.many_names (l.another_name m)) j = absurd i
-one_names _ _ _ _ _ (l.many_names l.two_names) i l.one_name j = absurd j
-one_names _ _ _ _ _ (l.many_names l.two_names_and_comma) i l.one_name j = absurd j
-one_names _ _ _ _ _ (l.many_names (l.another_name m)) i l.one_name j = absurd j
-one_names s r q _ _ (l.many_names {names = ns} m) i (l.many_names {names = ms} n) j =
+one_names _ _ _ _ _ target.one_name i target.one_name j = record { thing = refl; rest = refl }
+one_names _ _ _ _ _ target.one_name i (target.many_names target.two_names) j = absurd i
+one_names _ _ _ _ _ target.one_name i (target.many_names target.two_names_and_comma) j = absurd i
+one_names _ _ _ _ _ target.one_name i (target.many_names (target.another_name m)) j = absurd i
+one_names _ _ _ _ _ (target.many_names target.two_names) i target.one_name j = absurd j
+one_names _ _ _ _ _ (target.many_names target.two_names_and_comma) i target.one_name j = absurd j
+one_names _ _ _ _ _ (target.many_names (target.another_name m)) i target.one_name j = absurd j
+one_names s r q _ _ (target.many_names {names = ns} m) i (target.many_names {names = ms} n) j =
     let x = one_many s r q ns ms m i n j in record { thing = ap syntax.ToNames x.thing; rest = x.rest }
-one_names _ r q _ _ (l.many_names {names = ns} m) i (l.names_in_parentheses {s = s} {names = ms} n) j = elim m [ ]
-one_names _ r q _ _ (l.names_in_parentheses {s = s} {names = ns} m) i (l.many_names {names = ms} n) j = elim n [ ]
-one_names _ r q _ _ (l.names_in_parentheses {s = s} {names = ns} m) i (l.names_in_parentheses {names = ms} n) j =
+one_names _ r q _ _ (target.many_names {names = ns} m) i (target.names_in_parentheses {s = s} {names = ms} n) j = elim m [ ]
+one_names _ r q _ _ (target.names_in_parentheses {s = s} {names = ns} m) i (target.many_names {names = ms} n) j = elim n [ ]
+one_names _ r q _ _ (target.names_in_parentheses {s = s} {names = ns} m) i (target.names_in_parentheses {names = ms} n) j =
     let x = one_many s (t.right_paren ∷ r) (t.right_paren ∷ q) ns ms m tt n tt in record { thing = ap syntax.ToNames x.thing; rest = ap behind x.rest }
 
 -- ---- targets are phrases
@@ -304,7 +306,7 @@ module _ (one : OneFront) where
       record { thing = phrase_one a b x.thing; rest = x.rest }
 
   pub one_place : (s r q : Tokens) (a b : Target) → Place s r a → IsEnd L r → Place s q b → IsEnd L q → Same a b r q
-  one_place s r q a b d i e j = one_assigned s r q a b (l.to_place d) i (l.to_place e) j
+  one_place s r q a b d i e j = one_assigned s r q a b (target.to_place d) i (target.to_place e) j
 
   -- ---- parameters
 

@@ -3,10 +3,10 @@ use Rattle.std.proofs.Common.{◌≡◌, ◌<◌, max, Bool, true, false, ◌||�
 use Rattle.py_tree.specs.Syntax.{Param}
 use Rattle.py_tree.specs.Joined.{param_of}
 use Rattle.py_tree.specs.declared.expression.Param as tree
-use Rattle.py_expr.specs.declared.phrase.Built.{Built}
-use Rattle.py_expr.specs.declared.phrase.Built.TheVariants.{Shallow, TooDeep}
-use Rattle.py_expr.specs.Tokens as t
-use Rattle.py_expr.specs.Grammar.{Tokens}
+use Rattle.py_phrases.specs.declared.phrase.Built.{Built}
+use Rattle.py_phrases.specs.declared.phrase.Built.TheVariants.{Shallow, TooDeep}
+use Rattle.py_phrases.specs.Tokens as t
+use Rattle.py_phrases.specs.Grammar.{Tokens}
 use Rattle.py_expr.specs.Forms.{params_of}
 use Rattle.py_expr.specs.Lines as l
 use Rattle.py_expr.specs.Lines.{Parameter, Parameters, defaults_last}

@@ -7,20 +7,19 @@ use Rattle.py_tree.specs.Joined.{expression_of, target_of}
 use Rattle.py_tree.specs.declared.expression.Expr.{Expr}
 use Rattle.py_tree.specs.declared.expression.Target as tree
 use Rattle.py_tree.specs.declared.expression.Target.TheVariants as made
-use Rattle.py_expr.specs.declared.phrase.Phrase.{Phrase}
-use Rattle.py_expr.specs.declared.phrase.Built.{Built}
-use Rattle.py_expr.specs.declared.phrase.Built.TheVariants.{Shallow, TooDeep}
-use Rattle.py_expr.specs.Grammar.{Tokens, L}
-use Rattle.py_expr.specs.Ends.{IsEnd}
-use Rattle.py_expr.specs.Lines as l
-use Rattle.py_expr.specs.Lines.{Place, Assigned}
-use Rattle.py_expr.specs.Depth.{target_nesting}
-use Rattle.py_expr.specs.Phrases.{IsTarget, BuildsTarget}
+use Rattle.py_phrases.specs.declared.phrase.Phrase.{Phrase}
+use Rattle.py_phrases.specs.declared.phrase.Built.{Built}
+use Rattle.py_phrases.specs.declared.phrase.Built.TheVariants.{Shallow, TooDeep}
+use Rattle.py_phrases.specs.Grammar.{Tokens, L}
+use Rattle.py_phrases.specs.Ends.{IsEnd}
+use Rattle.py_phrases.specs.Phrases.{IsTarget, BuildsTarget}
 use Rattle.py_expr.specs.Readings.{IsBuilt, both_built}
 use Rattle.py_expr.specs.Statements.{IsWhole, AllOfList, PartsAt, Parts, is_place, IsPlaceBuilt, BuildsPlace}
 use Rattle.py_expr.proofs.OneForm.{OneFront, one_assigned}
-use Rattle.py_expr.proofs.Builds.{one_front}
+use Rattle.py_phrases.proofs.Builds.{one_front}
 use Rattle.py_expr.proofs.Wholes.{both_are}
+use Rattle.py_phrases.specs.Targets as target
+use Rattle.py_phrases.specs.Targets.{Place, Assigned, target_nesting}
 
 one : OneFront
 one k s r q d e y h z h' = let a = one_front y h z h' in record { thing = a.tree; rest = a.rest }
@@ -33,9 +32,9 @@ names_are_no_place (Shallow (made.Index e i)) names h is = let e = h.1 in absurd
 names_are_no_place TooDeep names h is = absurd (omega (arith, h))
 
 place_built : (s r : Tokens) (g : Target) (b : Built tree.Target) → Assigned s r g → IsBuilt target_of target_nesting g b → true ≡ is_place b → IsPlaceBuilt s r (Some b)
-place_built s r g b (l.to_place p) built is = (g, p, built)
-place_built s r _ b (l.to_names {names = names} m) built is = absurd (names_are_no_place b names built is)
-place_built _ r _ b (l.to_names_in_parentheses {names = names} m) built is = absurd (names_are_no_place b names built is)
+place_built s r g b (target.to_place p) built is = (g, p, built)
+place_built s r _ b (target.to_names {names = names} m) built is = absurd (names_are_no_place b names built is)
+place_built _ r _ b (target.to_names_in_parentheses {names = names} m) built is = absurd (names_are_no_place b names built is)
 
 target_is_place : (s r : Tokens) (b : Built tree.Target) → IsTarget s r (Some b) → true ≡ is_place b → IsPlaceBuilt s r (Some b)
 target_is_place s r (Shallow a) h is = place_built s r (target_of a) (Shallow a) h.0 (h.1, refl) is
@@ -49,7 +48,7 @@ no_names_place s r names p = elim p [ ]
 
 no_names_there : (s r : Tokens) (g h : Target) (names : List Text) → g ≡ x.ToNames names → Assigned s r g → IsEnd L r → Place s r h → ⊥
 no_names_there s r g h names is d ends p =
-    let same : h ≡ x.ToNames names = sym (one_assigned one s r r g h d ends (l.to_place p) ends).thing ∙ is in
+    let same : h ≡ x.ToNames names = sym (one_assigned one s r r g h d ends (target.to_place p) ends).thing ∙ is in
     no_names_place s r names (subst (Place s r) same p)
 
 names_there : (s r : Tokens) (b : Built tree.Target) → IsTarget s r (Some b) → false ≡ is_place b → IsEnd L r → (g : Target) → Place s r g → ⊥
@@ -64,7 +63,7 @@ only_place phrase o b None h builds is = only_names phrase b (subst (BuildsTarge
 only_place phrase o b (Some place) h builds is = subst (λ z. BuildsPlace phrase (Some z)) (sym is.0) (place_there phrase b (subst (BuildsTarget phrase) h builds) (sym is.1))
 
 pub no_target_there : (phrase : Phrase) (o : Option (Built tree.Target)) → o ≡ None → BuildsTarget phrase o → BuildsPlace phrase None
-no_target_there phrase o h builds s r e front g p = subst (IsTarget s r) h (builds s r e front) g (l.to_place p)
+no_target_there phrase o h builds s r e front g p = subst (IsTarget s r) h (builds s r e front) g (target.to_place p)
 
 -- ---- a target or place, and a value
 

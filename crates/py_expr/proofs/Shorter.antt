@@ -2,8 +2,8 @@
 use Rattle.std.proofs.Common.{◌<◌, ◌≤◌, length, arith}
 use Rattle.py_tree.specs.Syntax.{Text, Expression, Expressions, Pairs, Keywords, Param}
 use Rattle.std.proofs.Common.{Option}
-use Rattle.py_expr.specs.Grammar as g
-use Rattle.py_expr.specs.Grammar.{Tokens, Level, Spells, Joined, Items, Entries, Arguments, KeywordsAt}
+use Rattle.py_phrases.specs.Grammar as g
+use Rattle.py_phrases.specs.Grammar.{Tokens, Level, Spells, Joined, Items, Entries, Arguments, KeywordsAt}
 use Rattle.py_expr.specs.Lines as l
 use Rattle.py_expr.specs.Lines.{Annotation, Default, Parameter}
 

@@ -18,25 +18,26 @@ use Rattle.py_lexer.specs.declared.token.Keyword.{Keyword}
 use Rattle.py_lexer.specs.declared.token.Keyword.TheVariants as word
 use Rattle.py_lexer.specs.declared.token.Mark.{Mark}
 use Rattle.py_lexer.specs.declared.token.Mark.TheVariants as mark
-use Rattle.py_expr.specs.declared.phrase.Phrase.{Phrase}
-use Rattle.py_expr.specs.declared.phrase.Built.{Built}
-use Rattle.py_expr.specs.declared.phrase.Built.TheVariants.{Shallow, TooDeep}
-use Rattle.py_expr.specs.Tokens as t
-use Rattle.py_expr.specs.Grammar.{Tokens, L, Spells}
-use Rattle.py_expr.specs.Ends.{IsEnd}
+use Rattle.py_phrases.specs.declared.phrase.Phrase.{Phrase}
+use Rattle.py_phrases.specs.declared.phrase.Built.{Built}
+use Rattle.py_phrases.specs.declared.phrase.Built.TheVariants.{Shallow, TooDeep}
+use Rattle.py_phrases.specs.Tokens as t
+use Rattle.py_phrases.specs.Grammar.{Tokens, L, Spells}
+use Rattle.py_phrases.specs.Ends.{IsEnd}
 use Rattle.py_expr.specs.Lines as l
-use Rattle.py_expr.specs.Lines.{Augmented, Place, Assigned, Simple, Taken}
-use Rattle.py_expr.specs.Depth.{target_nesting, kind_nesting}
-use Rattle.py_expr.specs.Phrases.{Is, AtFront, IsExpression, BuildsExpression}
+use Rattle.py_expr.specs.Lines.{Augmented, Simple, Taken}
+use Rattle.py_expr.specs.Depth.{kind_nesting}
+use Rattle.py_phrases.specs.Phrases.{Is, AtFront, IsExpression, BuildsExpression}
 use Rattle.py_expr.specs.Readings.{IsBuilt, both_built}
 use Rattle.py_expr.specs.ImportRuns.{AreImported, AreTaken}
 use Rattle.py_expr.specs.Statements as w
 use Rattle.py_expr.specs.Statements.{IsWhole, WholeAt, StatementAt, AllOfList, AllOfExpression, Annotated, annotation_of, annotation_nesting, IsLast, Makes, MakesOfBoth, PartsAt, Parts, Annotates, AnnotatesAt, FromAt, annotated_of, annotated_nesting, Augments, IsOther, IsPlain, HasNoWord, StatementBehind}
-use Rattle.py_expr.proofs.TargetPhrases.{as_phrase, place_is, assigned_is}
+use Rattle.py_phrases.proofs.TargetPhrases.{as_phrase, place_is, assigned_is}
 use Rattle.py_expr.proofs.OneForm.{OneFront, begins, behind, augmented_ends, no_equal, no_colon, no_rest, colon_or_equal, name_phrase, attribute_phrase}
-use Rattle.py_expr.proofs.Builds.{one_front}
+use Rattle.py_phrases.proofs.Builds.{one_front}
 use Rattle.py_expr.proofs.Wholes.{whole_under, both_are}
 use Rattle.py_expr.proofs.KindsOf.{pass_is, break_is, continue_is, return_is, raise_is, import_is, from_is}
+use Rattle.py_phrases.specs.Targets.{Place, Assigned, target_nesting}
 
 one : OneFront
 one k s r q d e y h z h' = let a = one_front y h z h' in record { thing = a.tree; rest = a.rest }

@@ -7,9 +7,9 @@ use Rattle.py_tree.specs.declared.statement.StmtKind.{StmtKind}
 use Rattle.py_expr.specs.declared.form.Head as tree_head
 use Rattle.py_expr.specs.declared.form.Form as tree
 use Rattle.py_expr.specs.declared.form.Form.TheVariants as made
-use Rattle.py_expr.specs.declared.phrase.Built.{Built}
-use Rattle.py_expr.specs.declared.phrase.Built.TheVariants.{Shallow, TooDeep}
-use Rattle.py_expr.specs.Grammar.{Tokens}
+use Rattle.py_phrases.specs.declared.phrase.Built.{Built}
+use Rattle.py_phrases.specs.declared.phrase.Built.TheVariants.{Shallow, TooDeep}
+use Rattle.py_phrases.specs.Grammar.{Tokens}
 use Rattle.py_expr.specs.Forms as form
 use Rattle.py_expr.specs.Forms.{Form, Head, head_of, form_of}
 use Rattle.py_expr.specs.Depth.{head_nesting, kind_nesting, form_nesting}
@@ -18,7 +18,7 @@ use Rattle.py_expr.specs.Lines.{HeadAt, Simple, Line}
 use Rattle.py_expr.specs.LineEnds.{Anything}
 use Rattle.py_expr.specs.Readings.{IsBuilt, IsFound, built_on, both_built}
 use Rattle.py_expr.specs.Statements.{IsWhole, FormAt}
-use Rattle.py_expr.proofs.Builds.{one_front}
+use Rattle.py_phrases.proofs.Builds.{one_front}
 use Rattle.py_expr.proofs.OneForm.{OneFront, no_head}
 use Rattle.py_expr.proofs.Wholes.{whole_under, both_are}
 

@@ -4,11 +4,11 @@ use Rattle.py_tree.specs.Syntax.{Expression}
 use Rattle.py_tree.specs.Nesting.{nesting}
 use Rattle.py_tree.specs.Joined.{expression_of, maybe_of}
 use Rattle.py_tree.specs.declared.expression.Expr.{Expr}
-use Rattle.py_expr.specs.declared.phrase.Built.{Built}
-use Rattle.py_expr.specs.declared.phrase.Built.TheVariants.{Shallow, TooDeep}
-use Rattle.py_expr.specs.Tokens as t
-use Rattle.py_expr.specs.Grammar.{Tokens, Level, Spells, E}
-use Rattle.py_expr.specs.Ends.{IsEnd}
+use Rattle.py_phrases.specs.declared.phrase.Built.{Built}
+use Rattle.py_phrases.specs.declared.phrase.Built.TheVariants.{Shallow, TooDeep}
+use Rattle.py_phrases.specs.Tokens as t
+use Rattle.py_phrases.specs.Grammar.{Tokens, Level, Spells, E}
+use Rattle.py_phrases.specs.Ends.{IsEnd}
 use Rattle.py_expr.specs.Lines as l
 use Rattle.py_expr.specs.Lines.{Value}
 use Rattle.py_expr.specs.Depth.{maybe_nesting}

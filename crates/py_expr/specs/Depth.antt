@@ -5,6 +5,7 @@ use Rattle.py_tree.specs.Syntax.{Expression, Param, Target, Kind}
 use Rattle.py_tree.specs.Nesting.{nesting}
 use Rattle.py_expr.specs.Forms as form
 use Rattle.py_expr.specs.Forms.{Form, Head}
+use Rattle.py_phrases.specs.Targets.{target_nesting}
 
 abbrev pub maybe_nesting : Option Expression → ℕ
 maybe_nesting None = 0
@@ -16,12 +17,6 @@ param_nesting p = max (maybe_nesting p.kind) (maybe_nesting p.default)
 abbrev pub params_nesting : List Param → ℕ
 params_nesting [] = 0
 params_nesting (p ∷ ps) = max (param_nesting p) (params_nesting ps)
-
-abbrev pub target_nesting : Target → ℕ
-target_nesting (x.ToName n) = 0
-target_nesting (x.ToAttr e n) = nesting e
-target_nesting (x.ToIndex e i) = max (nesting e) (nesting i)
-target_nesting (x.ToNames names) = 0
 
 -- of a simple statement
 abbrev pub kind_nesting : Kind → ℕ

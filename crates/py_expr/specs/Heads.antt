@@ -13,17 +13,18 @@ use Rattle.py_expr.specs.declared.form.Head as tree
 use Rattle.py_expr.specs.declared.found.Found.{Found}
 use Rattle.py_expr.specs.declared.head.Tested.{Tested}
 use Rattle.py_expr.specs.declared.head.Tested.TheVariants as tested
-use Rattle.py_expr.specs.declared.phrase.Built.{Built}
-use Rattle.py_expr.specs.declared.phrase.Built.TheVariants.{Shallow}
-use Rattle.py_expr.specs.Tokens as t
-use Rattle.py_expr.specs.Grammar.{Tokens, E, Spells}
-use Rattle.py_expr.specs.Ends.{IsEnd}
+use Rattle.py_phrases.specs.declared.phrase.Built.{Built}
+use Rattle.py_phrases.specs.declared.phrase.Built.TheVariants.{Shallow}
+use Rattle.py_phrases.specs.Tokens as t
+use Rattle.py_phrases.specs.Grammar.{Tokens, E, Spells}
+use Rattle.py_phrases.specs.Ends.{IsEnd}
 use Rattle.py_expr.specs.LineEnds.{Anything}
 use Rattle.py_expr.specs.Lines.{HeadAt}
-use Rattle.py_expr.specs.Depth.{maybe_nesting, params_nesting, target_nesting, head_nesting}
+use Rattle.py_expr.specs.Depth.{maybe_nesting, params_nesting, head_nesting}
 use Rattle.py_expr.specs.Forms as form
 use Rattle.py_expr.specs.Forms.{Head, head_of, params_of}
 use Rattle.py_expr.specs.Readings.{IsBuilt, IsFound, FoundAt}
+use Rattle.py_phrases.specs.Targets.{target_nesting}
 
 -- behind its word
 abbrev pub HeadBehind : Keyword → Tokens → Tokens → Head → Type 0

@@ -4,7 +4,7 @@ use Rattle.py_tree.specs.declared.statement.Import.{Import}
 use Rattle.py_lexer.specs.declared.token.Token.TheVariants as token
 use Rattle.py_lexer.specs.declared.token.Keyword.TheVariants as word
 use Rattle.py_lexer.specs.declared.token.Mark.TheVariants as mark
-use Rattle.py_expr.specs.Grammar.{Tokens}
+use Rattle.py_phrases.specs.Grammar.{Tokens}
 use Rattle.py_expr.specs.Lines.{ImportItems, Taken}
 
 -- import items with commas between, whether a comma stands behind the last, and what follows

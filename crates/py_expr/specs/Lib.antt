@@ -1,17 +1,6 @@
 pub mod Forms
-pub mod Tokens
-pub mod Grammar
 pub mod Lines
 pub mod Depth
-pub mod Ends
-pub mod Machine
-pub mod Emitted
-pub mod Views
-pub mod Phrases
-pub mod Readers
-pub mod Stacks
-pub mod Laws
-pub mod Targets
 pub mod LineAnswers
 pub mod Readings
 pub mod LineEnds

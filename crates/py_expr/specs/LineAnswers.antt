@@ -6,7 +6,7 @@ use Rattle.py_tree.specs.declared.fault.Stop.{Stop}
 use Rattle.py_tree.specs.declared.fault.Stop.TheVariants as stop
 use Rattle.py_expr.specs.declared.form.Form as tree
 use Rattle.py_expr.specs.Forms.{Form, form_of}
-use Rattle.py_expr.specs.Grammar.{Tokens}
+use Rattle.py_phrases.specs.Grammar.{Tokens}
 use Rattle.py_expr.specs.Lines.{Line}
 use Rattle.py_expr.specs.Depth.{form_nesting}
 

@@ -2,7 +2,7 @@
 use Rattle.std.specs.Prelude.{[], ◌∷◌}
 use Rattle.py_lexer.specs.declared.token.Token.TheVariants as token
 use Rattle.py_lexer.specs.declared.token.Mark.TheVariants as mark
-use Rattle.py_expr.specs.Grammar.{Tokens}
+use Rattle.py_phrases.specs.Grammar.{Tokens}
 
 -- behind what ends with a token of its own
 abbrev pub Anything : Tokens → Type 0

@@ -1,14 +1,15 @@
 -- No definition of the language: what is known of a thing that was read at the front of tokens.
 use Rattle.std.specs.Prelude.{◌≡◌, ◌≤◌, ◌<◌, ℕ, List, ◌∷◌, Option, Some, None, Result, Ok, Err}
 use Rattle.std.specs.declared.alloc.AllocError.{AllocError}
-use Rattle.py_expr.specs.declared.phrase.Built.{Built}
-use Rattle.py_expr.specs.declared.phrase.Built.TheVariants.{Shallow, TooDeep}
+use Rattle.py_phrases.specs.declared.phrase.Built.{Built}
+use Rattle.py_phrases.specs.declared.phrase.Built.TheVariants.{Shallow, TooDeep}
 use Rattle.py_expr.specs.declared.found.Found.{Found}
 use Rattle.py_tree.specs.Syntax.{Text, Expression, Target, Param}
-use Rattle.py_expr.specs.Tokens as t
-use Rattle.py_expr.specs.Grammar.{Tokens, Spells, E, L}
+use Rattle.py_phrases.specs.Tokens as t
+use Rattle.py_phrases.specs.Grammar.{Tokens, Spells, E, L}
 use Rattle.py_lexer.specs.declared.token.Token.TheVariants as token
-use Rattle.py_expr.specs.Lines.{Names, Parameters, Base}
+use Rattle.py_expr.specs.Lines.{Parameters, Base}
+use Rattle.py_phrases.specs.Targets.{Names}
 
 -- the same thing, with the same behind it
 pub record Same {A : Type 0} (a b : A) (r q : Tokens) : Type 0 where

@@ -6,8 +6,8 @@ use Rattle.py_tree.specs.declared.expression.Param as tree
 use Rattle.py_lexer.specs.declared.token.Token.TheVariants as token
 use Rattle.py_lexer.specs.declared.token.Mark.TheVariants as mark
 use Rattle.py_expr.specs.declared.parameters.ReadParam.{ReadParam}
-use Rattle.py_expr.specs.declared.phrase.Built.{Built}
-use Rattle.py_expr.specs.Grammar.{Tokens}
+use Rattle.py_phrases.specs.declared.phrase.Built.{Built}
+use Rattle.py_phrases.specs.Grammar.{Tokens}
 use Rattle.py_expr.specs.Lines.{Parameter, defaults_last}
 use Rattle.py_expr.specs.LineEnds.{EndsParameter}
 use Rattle.py_expr.specs.Depth.{param_nesting}

@@ -15,17 +15,18 @@ use Rattle.py_lexer.specs.declared.token.Token.TheVariants as token
 use Rattle.py_lexer.specs.declared.token.Keyword.{Keyword}
 use Rattle.py_lexer.specs.declared.token.Keyword.TheVariants as word
 use Rattle.py_lexer.specs.declared.token.Mark.TheVariants as mark
-use Rattle.py_expr.specs.declared.phrase.Built.{Built}
-use Rattle.py_expr.specs.declared.phrase.Built.TheVariants.{Shallow}
-use Rattle.py_expr.specs.declared.phrase.Phrase.{Phrase}
-use Rattle.py_expr.specs.Tokens as t
+use Rattle.py_phrases.specs.declared.phrase.Built.{Built}
+use Rattle.py_phrases.specs.declared.phrase.Built.TheVariants.{Shallow}
+use Rattle.py_phrases.specs.declared.phrase.Phrase.{Phrase}
+use Rattle.py_phrases.specs.Tokens as t
 use Rattle.py_expr.specs.declared.form.Form as tree_form
 use Rattle.py_expr.specs.Forms.{Head, form_of}
-use Rattle.py_expr.specs.Grammar.{Tokens, Spells, E, L}
-use Rattle.py_expr.specs.Lines.{Augmented, HeadAt, Line, Place, Value, Simple, Taken}
-use Rattle.py_expr.specs.Depth.{form_nesting, maybe_nesting, target_nesting, kind_nesting}
-use Rattle.py_expr.specs.Phrases.{Is}
+use Rattle.py_phrases.specs.Grammar.{Tokens, Spells, E, L}
+use Rattle.py_expr.specs.Lines.{Augmented, HeadAt, Line, Value, Simple, Taken}
+use Rattle.py_expr.specs.Depth.{form_nesting, maybe_nesting, kind_nesting}
+use Rattle.py_phrases.specs.Phrases.{Is}
 use Rattle.py_expr.specs.Readings.{IsBuilt}
+use Rattle.py_phrases.specs.Targets.{Place, target_nesting}
 
 -- the tokens are all of y, and what was built of it
 pub record IsWhole {T Y : Type 0} (Stands : Tokens → Y → Type 0) (view : T → Y) (depth : Y → ℕ) (s : Tokens) (tree : Built T) : Type 0 where

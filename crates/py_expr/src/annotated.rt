@@ -2,12 +2,12 @@ ghost use Rattle.std.specs.Prelude.{◌≡◌, ◌∷◌, IfOk};
 ghost use Rattle.py_lexer.specs.declared.token.Token.TheVariants as token;
 ghost use Rattle.py_tree.specs.Joined.{expression_of};
 ghost use Rattle.py_tree.specs.Syntax as x;
-ghost use Rattle.py_expr.specs.Tokens as t;
+ghost use Rattle.py_phrases.specs.Tokens as t;
 ghost use Rattle.py_expr.specs.Statements.{AnnotatesAt, StatementAt};
 
 use crate::found::both;
 use crate::made::annotating;
-use crate::phrase::Built;
+use py_phrases::phrase::Built;
 use crate::whole::{Whole, annotation};
 use py_lexer::token::Token;
 use py_tree::expression::{Expr, Target};

@@ -1,16 +1,17 @@
 ghost use Rattle.std.specs.Prelude.{◌≡◌, true, false, [], ◌∷◌, IfOk, MatchOption};
 ghost use Rattle.py_lexer.specs.declared.token.Token.TheVariants as token;
 ghost use Rattle.py_tree.specs.declared.operator.BinaryOp.{BinaryOp};
-ghost use Rattle.py_expr.specs.Grammar.{Tokens};
-ghost use Rattle.py_expr.specs.Tokens as t;
+ghost use Rattle.py_phrases.specs.Grammar.{Tokens};
+ghost use Rattle.py_phrases.specs.Tokens as t;
 ghost use Rattle.py_expr.specs.Statements as spec;
-ghost use Rattle.py_expr.specs.Lines.{Assigned, Augmented, Place};
+ghost use Rattle.py_expr.specs.Lines.{Augmented};
 ghost use Rattle.py_expr.specs.Statements.{Augments, BuildsPlace, Parts, StatementBehind};
+ghost use Rattle.py_phrases.specs.Targets.{Place, Assigned};
 
 use crate::found::both;
 use crate::front::{after_mark, first_mark};
 use crate::made::{assigning, augmenting, evaluating};
-use crate::phrase::{Built, Phrase};
+use py_phrases::phrase::{Built, Phrase};
 use crate::whole::{Whole, whole_list};
 use py_lexer::token::{Mark, Token};
 use py_tree::expression::{Expr, Target};

@@ -1,5 +1,5 @@
 ghost use Rattle.std.specs.Prelude.{◌≡◌, IfOk, Some};
-ghost use Rattle.py_expr.specs.declared.phrase.Built.TheVariants as Built;
+ghost use Rattle.py_phrases.specs.declared.phrase.Built.TheVariants as Built;
 ghost use Rattle.py_tree.specs.Joined.{expression_of, maybe_of};
 ghost use Rattle.py_tree.specs.Syntax as x;
 ghost use Rattle.py_expr.specs.Lines.{Base};
@@ -9,7 +9,7 @@ ghost use Rattle.py_expr.specs.Readings.{BaseBehind, FoundAt};
 
 use crate::found::{Found, Reading, absent};
 use crate::front::{after_closed_head, after_mark, after_name};
-use crate::phrase::Built;
+use py_phrases::phrase::Built;
 use py_lexer::token::{Mark, Token};
 use py_tree::expression::Expr;
 use py_tree::text::Text;

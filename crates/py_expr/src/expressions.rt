@@ -1,14 +1,14 @@
 ghost use Rattle.std.specs.Prelude.{IfOk};
 ghost use Rattle.py_tree.specs.Joined.{expression_of};
 ghost use Rattle.py_tree.specs.Nesting.{nesting};
-ghost use Rattle.py_expr.specs.Grammar.{E, L, Spells};
-ghost use Rattle.py_expr.specs.Ends.{IsEnd};
+ghost use Rattle.py_phrases.specs.Grammar.{E, L, Spells};
+ghost use Rattle.py_phrases.specs.Ends.{IsEnd};
 ghost use Rattle.py_expr.specs.LineEnds.{Anything};
 ghost use Rattle.py_expr.specs.Readings.{FoundAt, BeforeColon, ListBeforeColon};
 
 use crate::found::{Found, Reading};
 use crate::front::after_mark;
-use crate::phrase::{expression_at, list_at};
+use py_phrases::phrase::{expression_at, list_at};
 use py_lexer::token::{Mark, Token};
 use py_tree::expression::Expr;
 use std::alloc::Global;

@@ -1,16 +1,16 @@
 ghost use Rattle.std.specs.Prelude.{◌≡◌, ◌∷◌, IfOk, false};
-ghost use Rattle.py_expr.specs.Tokens as t;
+ghost use Rattle.py_phrases.specs.Tokens as t;
 ghost use Rattle.std.specs.Option.{option_map};
 ghost use Rattle.py_tree.specs.Joined.{target_of};
-ghost use Rattle.py_expr.specs.Depth.{target_nesting};
-ghost use Rattle.py_expr.specs.Grammar.{Tokens};
+ghost use Rattle.py_phrases.specs.Grammar.{Tokens};
 ghost use Rattle.py_expr.specs.LineEnds.{Anything};
 ghost use Rattle.py_expr.specs.Runs as spec;
 ghost use Rattle.py_expr.specs.Readings.{FoundAt, BeforeIn, InParentheses};
+ghost use Rattle.py_phrases.specs.Targets.{target_nesting};
 
 use crate::found::{Found, Reading};
 use crate::front::{after_mark, after_name, after_word};
-use crate::phrase::Built;
+use py_phrases::phrase::Built;
 use py_lexer::token::{Keyword, Mark, Token};
 use py_tree::expression::{Target, Texts};
 use std::alloc::{AllocError, Global};

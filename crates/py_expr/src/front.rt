@@ -1,6 +1,6 @@
 ghost use Rattle.std.specs.Prelude.{◌≡◌, ◌∷◌, MatchOption};
-ghost use Rattle.py_expr.specs.Grammar.{Tokens};
-ghost use Rattle.py_expr.specs.Tokens as t;
+ghost use Rattle.py_phrases.specs.Grammar.{Tokens};
+ghost use Rattle.py_phrases.specs.Tokens as t;
 ghost use Rattle.py_lexer.specs.declared.token.Token.TheVariants as token;
 
 use py_lexer::token::{Keyword, Mark, Token};

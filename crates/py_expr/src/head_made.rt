@@ -7,7 +7,7 @@ ghost use Rattle.py_expr.specs.Heads.{MakesClass, MakesDef, MakesFor, MakesHead,
 use crate::form::Head;
 use crate::found::both;
 use crate::head::Tested;
-use crate::phrase::Built;
+use py_phrases::phrase::Built;
 use py_tree::expression::{Expr, Params, Target};
 use py_tree::text::Text;
 use std::alloc::{AllocError, Global};

@@ -1,7 +1,7 @@
 ghost use Rattle.std.specs.Prelude.{◌≡◌, [], ◌∷◌, Bool, false, IfOk, MatchOption};
 ghost use Rattle.py_lexer.specs.declared.token.Token.TheVariants as token;
-ghost use Rattle.py_expr.specs.Grammar.{Tokens};
-ghost use Rattle.py_expr.specs.Tokens as t;
+ghost use Rattle.py_phrases.specs.Grammar.{Tokens};
+ghost use Rattle.py_phrases.specs.Tokens as t;
 ghost use Rattle.py_expr.specs.ImportRuns as spec;
 
 use crate::front::{after_mark, after_name};

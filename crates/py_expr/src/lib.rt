@@ -4,8 +4,6 @@
 mod annotated;
 mod assigned;
 mod bases;
-mod build;
-mod call;
 mod expressions;
 mod for_names;
 pub mod form;
@@ -14,22 +12,10 @@ mod front;
 mod head;
 mod head_definitions;
 mod head_made;
-#[cfg(test)]
-mod head_tests;
 mod imports;
-mod level;
 pub mod line;
-mod machine;
 mod made;
-mod nesting;
-mod operand;
-mod operator;
 mod parameters;
-pub mod phrase;
-mod reader;
 mod simple;
-mod targets;
-#[cfg(test)]
-mod tests;
 mod whole;
 mod worded;

@@ -3,7 +3,7 @@ ghost use Rattle.py_tree.specs.Joined.{kind_of, target_of};
 ghost use Rattle.py_tree.specs.Syntax as x;
 ghost use Rattle.py_expr.specs.Statements.{Annotates, annotation_of, Makes, MakesOfBoth};
 
-use crate::phrase::Built;
+use py_phrases::phrase::Built;
 use py_tree::expression::{Expr, Target};
 use py_tree::operator::BinaryOp;
 use py_tree::statement::StmtKind;

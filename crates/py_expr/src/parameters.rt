@@ -7,12 +7,12 @@ ghost use Rattle.py_expr.specs.Depth.{maybe_nesting, param_nesting, params_nesti
 ghost use Rattle.py_expr.specs.Forms.{params_of};
 ghost use Rattle.py_expr.specs.Readings.{FoundAt, IsBuilt, IsClosed, built_on};
 ghost use Rattle.py_expr.specs.Signatures as spec;
-ghost use Rattle.py_expr.specs.declared.phrase.Built.TheVariants as Built;
+ghost use Rattle.py_phrases.specs.declared.phrase.Built.TheVariants as Built;
 
 use crate::expressions::{expression, expression_before_colon};
 use crate::found::{Found, Reading, absent, both, present};
 use crate::front::{after_mark, after_name};
-use crate::phrase::Built;
+use py_phrases::phrase::Built;
 use py_lexer::token::{Mark, Token};
 use py_tree::expression::{Expr, Param, Params};
 use py_tree::text::Text;

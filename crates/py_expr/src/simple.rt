@@ -1,13 +1,13 @@
 ghost use Rattle.std.specs.Prelude.{◌≡◌, ◌∷◌, IfOk, MatchOption};
 ghost use Rattle.py_lexer.specs.declared.token.Token.TheVariants as token;
-ghost use Rattle.py_expr.specs.Grammar.{Tokens};
-ghost use Rattle.py_expr.specs.Tokens as t;
+ghost use Rattle.py_phrases.specs.Grammar.{Tokens};
+ghost use Rattle.py_phrases.specs.Tokens as t;
 ghost use Rattle.py_expr.specs.Statements.{HasNoWord, IsPlain, StatementAt};
 
 use crate::annotated::{annotated_attribute, annotated_name};
 use crate::assigned::begun_by;
 use crate::front::{after_mark, after_name, first_word};
-use crate::phrase::{Built, list_at};
+use py_phrases::phrase::{Built, list_at};
 use crate::whole::{Whole, last};
 use crate::worded::{imported, imported_from, raised, returned};
 use py_lexer::token::{Keyword, Mark, Token};

@@ -1,12 +1,12 @@
 ghost use Rattle.std.specs.Prelude.{◌≡◌, ◌∷◌, IfOk, MatchOption};
 ghost use Rattle.py_lexer.specs.declared.token.Token.TheVariants as token;
-ghost use Rattle.py_expr.specs.Grammar.{Tokens};
-ghost use Rattle.py_expr.specs.Tokens as t;
+ghost use Rattle.py_phrases.specs.Grammar.{Tokens};
+ghost use Rattle.py_phrases.specs.Tokens as t;
 ghost use Rattle.py_expr.specs.Statements.{FromAt, StatementAt};
 
 use crate::imports::{import_items, taken};
 use crate::made::{raising, returning};
-use crate::phrase::Built;
+use py_phrases::phrase::Built;
 use crate::whole::{Whole, whole_expression, whole_list};
 use py_lexer::token::{Keyword, Token};
 use py_tree::statement::{Imported, StmtKind};

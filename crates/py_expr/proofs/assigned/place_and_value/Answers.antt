@@ -1,10 +1,10 @@
 use Rattle.py_tree.specs.Joined.{expression_of}
 use Rattle.py_tree.specs.Nesting.{nesting}
-use Rattle.py_expr.specs.Lines.{Place}
 use Rattle.py_expr.specs.Statements.{AllOfList}
 use Rattle.py_expr.proofs.Places.{place_parts, no_place_part, no_value_part}
 use Rattle.py_expr.proofs.Wholes.{some_whole, none_whole}
 use Rattle.py_expr.proofs.assigned.place_and_value.Goals as goal
+use Rattle.py_phrases.specs.Targets.{Place}
 
 pub returns-in_default : goal.returns-in_default
 returns-in_default c = no_value_part Place c.args.tokens.now c.args.phrase.now (none_whole AllOfList expression_of nesting c.args.tokens.now c.in_default.is c.in_ok-value.ensures)

@@ -1,4 +1,4 @@
-use Rattle.py_expr.specs.Grammar.{L}
+use Rattle.py_phrases.specs.Grammar.{L}
 use Rattle.py_expr.proofs.FoundAt.{phrase_found}
 use Rattle.py_expr.proofs.expressions.list.Goals as goal
 

@@ -1,5 +1,5 @@
 use Rattle.std.proofs.Common.{◌∷◌, arith, ap, sym, ◌∙◌}
-use Rattle.py_expr.specs.Tokens as t
+use Rattle.py_phrases.specs.Tokens as t
 use Rattle.py_expr.proofs.OneForm.{behind}
 use Rattle.py_expr.proofs.ForNames.{parentheses_found, no_parentheses}
 use Rattle.py_expr.proofs.for_names.in_parentheses.Goals as goal

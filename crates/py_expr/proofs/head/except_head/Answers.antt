@@ -2,8 +2,8 @@ use Rattle.std.proofs.lemmas.Result.{IfOk-weaker}
 use Rattle.py_lexer.specs.declared.token.Keyword.TheVariants as word
 use Rattle.py_tree.specs.Joined.{expression_of}
 use Rattle.py_tree.specs.Nesting.{nesting}
-use Rattle.py_expr.specs.Ends.{IsEnd}
-use Rattle.py_expr.specs.Grammar.{E, Spells}
+use Rattle.py_phrases.specs.Ends.{IsEnd}
+use Rattle.py_phrases.specs.Grammar.{E, Spells}
 use Rattle.py_expr.specs.Heads.{ExceptBehind, FoundBehind}
 use Rattle.py_expr.proofs.FoundAt.{some_found, none_found}
 use Rattle.py_expr.proofs.Heads.{except_alone, no_matches}

@@ -1,11 +1,11 @@
 use Rattle.std.proofs.Common.{subst}
 use Rattle.py_tree.specs.Joined.{target_of}
-use Rattle.py_expr.specs.Depth.{target_nesting}
 use Rattle.py_expr.specs.LineEnds.{Anything}
 use Rattle.py_expr.specs.Readings.{BeforeIn, IsNext}
 use Rattle.py_expr.proofs.FoundAt.{some_found, none_found}
 use Rattle.py_expr.proofs.Heads.{loop_found, no_loop, no_names}
 use Rattle.py_expr.proofs.head.for_head.Goals as goal
+use Rattle.py_phrases.specs.Targets.{target_nesting}
 
 pub returns-in_default : goal.returns-in_default
 returns-in_default c = no_names c.args.tokens.now (none_found BeforeIn Anything target_of target_nesting c.args.tokens.now c.in_default.is c.in_ok-target.ensures)

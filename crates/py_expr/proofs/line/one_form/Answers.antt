@@ -1,5 +1,5 @@
 use Rattle.py_expr.proofs.OneForm.{OneFront, one_line}
-use Rattle.py_expr.proofs.Builds.{one_front}
+use Rattle.py_phrases.proofs.Builds.{one_front}
 use Rattle.py_expr.proofs.line.one_form.Goals as goal
 
 one : OneFront

@@ -1,5 +1,5 @@
 use Rattle.std.proofs.Common.{◌≡◌, ◌∷◌, length, ap, subst, arith}
-use Rattle.py_expr.specs.Tokens as t
+use Rattle.py_phrases.specs.Tokens as t
 use Rattle.py_expr.specs.Signatures.{ParamAt}
 use Rattle.py_expr.proofs.Defaults.{Later, none_before}
 use Rattle.py_expr.proofs.ParameterLists.{ended_found, with_comma, closed_found, found_shorter, out_of_order, no_parameter_there, some_param}

@@ -1,8 +1,8 @@
 use Rattle.py_tree.specs.Joined.{expression_of, maybe_of}
 use Rattle.py_tree.specs.Nesting.{nesting}
 use Rattle.py_expr.specs.Depth.{maybe_nesting}
-use Rattle.py_expr.specs.Grammar.{E, Spells}
-use Rattle.py_expr.specs.Ends.{IsEnd}
+use Rattle.py_phrases.specs.Grammar.{E, Spells}
+use Rattle.py_phrases.specs.Ends.{IsEnd}
 use Rattle.py_expr.specs.Lines.{Value}
 use Rattle.py_expr.proofs.FoundAt.{some_found, none_found}
 use Rattle.py_expr.proofs.Wholes.{annotation_there, no_kind_there, no_value_behind, some_whole, none_whole}

@@ -1,7 +1,0 @@
-use Rattle.std.proofs.Common.{take}
-use Rattle.py_expr.specs.Views.{texts_of}
-use Rattle.py_expr.proofs.SeenNames.{Seen}
-use Rattle.py_expr.proofs.call.no_repeats.Given as goal
-
-abbrev pub invariant-loop-name : goal.invariant-loop-name
-invariant-loop-name l = Seen (texts_of (take l.name-index l.names)) l.seen

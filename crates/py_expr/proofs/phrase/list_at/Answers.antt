@@ -1,6 +1,0 @@
-use Rattle.py_expr.specs.Grammar.{L}
-use Rattle.py_expr.proofs.Fronts.{fronts}
-use Rattle.py_expr.proofs.phrase.list_at.Goals as goal
-
-pub returns : goal.returns
-returns c = record { phrase = fronts L tt c.args.tokens.now c.phrase_at.result c.phrase_at.ensures }

@@ -1,7 +1,0 @@
-use Rattle.std.proofs.Common.{◌≡◌, take}
-use Rattle.py_expr.specs.Targets.{names_put}
-use Rattle.py_expr.specs.Views.{steps_of}
-use Rattle.py_expr.proofs.targets.names_of.Given as goal
-
-abbrev pub invariant-loop-step : goal.invariant-loop-step
-invariant-loop-step l = l.names ≡ names_put (steps_of (take l.step-index l.steps))

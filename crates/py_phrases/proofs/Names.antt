@@ -1,0 +1,24 @@
+-- Lists newest first: names that are pointed to, and frames.
+use Rattle.std.proofs.Common.{◌≡◌, ◌-◌, length, take, drop, List, [], ◌∷◌, ◌++◌, map, reverse, refl, sym, ap, ◌∙◌, arith}
+use Rattle.std.proofs.lemmas.List.{reverse-append, take-append-drop, length-drop}
+use Rattle.py_phrases.specs.declared.machine.Frame as code
+use Rattle.py_phrases.specs.Views.{frame_of, frames_of, rest}
+
+pub newest_first : {X Y : Type 0} → (f : X → Y) (xs : List X) (y : X) → map f (reverse (xs ++ y ∷ [])) ≡ f y ∷ map f (reverse xs)
+newest_first f xs y = ap (map f) (reverse-append xs (y ∷ []))
+
+one_left : {X : Type 0} → (xs : List X) → length xs ≡ 1 → (y : X) × (xs ≡ y ∷ [])
+one_left [] e = absurd (omega (arith, e))
+one_left (y ∷ []) e = (y, refl)
+one_left (y ∷ z ∷ xs) e = absurd (omega (arith, e))
+
+-- all but the newest
+pub but_newest : (frames : List code.Frame) → frames_of (take (length frames - 1) frames) ≡ rest (frames_of frames)
+but_newest [] = refl
+but_newest (f ∷ fs) =
+    let xs : List code.Frame = f ∷ fs in
+    let n = length xs - 1 in
+    let long : length (drop n xs) ≡ 1 = length-drop n xs ∙ omega arith in
+    let y = one_left (drop n xs) long in
+    let whole : take n xs ++ y.0 ∷ [] ≡ xs = ap (λ l. take n xs ++ l) (sym y.1) ∙ take-append-drop n xs in
+    sym (ap rest (sym (ap frames_of whole) ∙ newest_first frame_of (take n xs) y.0))

@@ -1,0 +1,9 @@
+-- What holds of the grammar of expressions.
+use Rattle.std.specs.Prelude.{◌≡◌}
+use Rattle.py_tree.specs.Syntax.{Expression}
+use Rattle.py_phrases.specs.Grammar.{Tokens, Level, Spells}
+use Rattle.py_phrases.specs.Ends.{IsEnd}
+
+-- at most one phrase of a level stands at a front and ends where such a phrase may end
+abbrev pub OnePhrase : Type 0
+OnePhrase = (k : Level) (s r q : Tokens) (d e : Expression) → Spells k s r d → IsEnd k r → Spells k s q e → IsEnd k q → (d ≡ e) × (r ≡ q)

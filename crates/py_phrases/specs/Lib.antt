@@ -1,0 +1,12 @@
+pub mod Tokens
+pub mod Grammar
+pub mod Ends
+pub mod Laws
+pub mod Targets
+pub mod Machine
+pub mod Emitted
+pub mod Views
+pub mod Phrases
+pub mod Readers
+pub mod Stacks
+pub mod TargetSteps

@@ -1,0 +1,7 @@
+//! The worked rows of the layers that read a module's text: tests alone, in a crate of their own, so that each layer is proved once.
+#![tactic(auto)]
+
+#[cfg(test)]
+mod blocks;
+#[cfg(test)]
+mod lines;
