@@ -7,9 +7,9 @@ ghost use Rattle.py_expr.specs.Statements.{AnnotatesAt, StatementAt};
 
 use crate::found::both;
 use crate::made::annotating;
-use py_phrases::phrase::Built;
 use crate::whole::{Whole, annotation};
 use py_lexer::token::Token;
+use py_phrases::phrase::Built;
 use py_tree::expression::{Expr, Target};
 use py_tree::statement::StmtKind;
 use py_tree::text::Text;

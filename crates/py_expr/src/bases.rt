@@ -9,8 +9,8 @@ ghost use Rattle.py_expr.specs.Readings.{BaseBehind, FoundAt};
 
 use crate::found::{Found, Reading, absent};
 use crate::front::{after_closed_head, after_mark, after_name};
-use py_phrases::phrase::Built;
 use py_lexer::token::{Mark, Token};
+use py_phrases::phrase::Built;
 use py_tree::expression::Expr;
 use py_tree::text::Text;
 use sqlite_items::Boxed;

@@ -8,8 +8,8 @@ ghost use Rattle.py_expr.specs.Readings.{FoundAt, BeforeColon, ListBeforeColon};
 
 use crate::found::{Found, Reading};
 use crate::front::after_mark;
-use py_phrases::phrase::{expression_at, list_at};
 use py_lexer::token::{Mark, Token};
+use py_phrases::phrase::{expression_at, list_at};
 use py_tree::expression::Expr;
 use std::alloc::Global;
 

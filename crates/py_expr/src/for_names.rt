@@ -10,8 +10,8 @@ ghost use Rattle.py_phrases.specs.Targets.{target_nesting};
 
 use crate::found::{Found, Reading};
 use crate::front::{after_mark, after_name, after_word};
-use py_phrases::phrase::Built;
 use py_lexer::token::{Keyword, Mark, Token};
+use py_phrases::phrase::Built;
 use py_tree::expression::{Target, Texts};
 use std::alloc::{AllocError, Global};
 

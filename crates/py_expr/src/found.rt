@@ -2,8 +2,8 @@ ghost use Rattle.std.specs.Prelude.{◌≡◌, Some, None, IfOk};
 ghost use Rattle.py_phrases.specs.declared.phrase.Built.TheVariants as Built;
 ghost use Rattle.py_expr.specs.Readings.{IsNext, built_on, both_built};
 
-use py_phrases::phrase::Built;
 use py_lexer::token::Token;
+use py_phrases::phrase::Built;
 use py_tree::expression::Expr;
 use std::alloc::AllocError;
 

@@ -14,8 +14,8 @@ use crate::found::{Found, Reading, with_next};
 use crate::front::{after_bound_name, after_mark, first_word};
 use crate::head_definitions::{class_head, def_head};
 use crate::head_made::{catching, looping, testing};
-use py_phrases::phrase::Built;
 use py_lexer::token::{Keyword, Mark, Token};
+use py_phrases::phrase::Built;
 use py_tree::expression::Expr;
 use std::alloc::Global;
 

@@ -8,8 +8,8 @@ ghost use Rattle.py_expr.specs.Statements.{AllOfExpression, AllOfList, Annotated
 use crate::expressions::{expression, list};
 use crate::found::{Found, both, present};
 use crate::front::after_mark;
-use py_phrases::phrase::Built;
 use py_lexer::token::{Mark, Token};
+use py_phrases::phrase::Built;
 use py_tree::expression::Expr;
 use std::alloc::{AllocError, Global};
 

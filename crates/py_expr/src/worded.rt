@@ -6,9 +6,9 @@ ghost use Rattle.py_expr.specs.Statements.{FromAt, StatementAt};
 
 use crate::imports::{import_items, taken};
 use crate::made::{raising, returning};
-use py_phrases::phrase::Built;
 use crate::whole::{Whole, whole_expression, whole_list};
 use py_lexer::token::{Keyword, Token};
+use py_phrases::phrase::Built;
 use py_tree::statement::{Imported, StmtKind};
 use py_tree::text::Text;
 use std::alloc::{AllocError, Global};
