@@ -2,6 +2,7 @@ pub mod Complete
 pub mod Sound
 pub mod WholeSound
 pub mod Builds
+pub mod Grouping
 pub mod Nested
 pub mod Names
 pub mod SeenNames

@@ -3,6 +3,7 @@
 
 mod build;
 mod call;
+pub mod laws;
 mod level;
 mod machine;
 mod nesting;

@@ -1,6 +1,5 @@
 ghost use Rattle.std.specs.Prelude.{◌≡◌, ◌≤◌, if◌then◌else◌, length, Some, None, IfOk};
 ghost use Rattle.py_phrases.specs.Grammar.{E, L};
-ghost use Rattle.py_phrases.specs.Laws.{OnePhrase};
 ghost use Rattle.py_phrases.specs.Machine as m;
 ghost use Rattle.py_phrases.specs.Views.{mode_of, level_of, frames_of, steps_of};
 ghost use Rattle.py_phrases.specs.declared.phrase.Stop.{Stop};
@@ -175,11 +174,6 @@ pub fn expression_at<'a>(
 {
     phrase_at(alloc, tokens, Whole::Lone)
 }
-
-/// At most one phrase stands at a front and ends where such a phrase may end.
-pub fn one_phrase()
-    ensures { OnePhrase }
-{}
 
 impl<'a> Phrase<'a> {
     /// The expression that the phrase spells.
