@@ -5,7 +5,8 @@ use Rattle.py_phrases.specs.declared.phrase.Phrase.{Phrase}
 use Rattle.py_phrases.specs.Grammar.{Tokens, Level}
 use Rattle.py_phrases.specs.Machine.{read, read_to}
 use Rattle.py_phrases.specs.Emitted.{emit}
-use Rattle.py_phrases.specs.Phrases.{AtFront, as_read}
+use Rattle.py_phrases.specs.Phrases.{AtFront}
+use Rattle.py_phrases.specs.Readers.{as_read}
 use Rattle.py_phrases.proofs.Complete.{is_read}
 use Rattle.py_phrases.proofs.WholeSound.{IsWhole, is_spelled}
 

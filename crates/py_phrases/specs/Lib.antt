@@ -1,12 +1,12 @@
 pub mod Tokens
 pub mod Grammar
 pub mod Ends
-pub mod Laws
 pub mod Targets
+pub mod Laws
+pub mod Phrases
 pub mod Machine
 pub mod Emitted
+pub mod TargetSteps
 pub mod Views
-pub mod Phrases
 pub mod Readers
 pub mod Stacks
-pub mod TargetSteps

@@ -1,23 +1,18 @@
 -- What a phrase that was found at the front of tokens is, and what is built of it.
-use Rattle.std.specs.Prelude.{◌≡◌, ◌≤◌, ◌<◌, drop, [], Option, Some, None}
+use Rattle.std.specs.Prelude.{◌≡◌, ◌≤◌, ◌<◌, [], Option, Some, None}
 use Rattle.py_tree.specs.Syntax.{Expression, Target}
 use Rattle.py_tree.specs.Nesting.{nesting}
 use Rattle.py_tree.specs.Joined.{expression_of, target_of}
 use Rattle.py_tree.specs.declared.expression.Expr.{Expr}
+use Rattle.py_tree.specs.declared.expression.Target as code
 use Rattle.py_phrases.specs.declared.phrase.Phrase.{Phrase}
 use Rattle.py_phrases.specs.declared.phrase.Built.{Built}
 use Rattle.py_phrases.specs.declared.phrase.Built.TheVariants.{Shallow, TooDeep}
 use Rattle.py_phrases.specs.Grammar.{Tokens, Level, L, Spells}
-use Rattle.py_tree.specs.declared.expression.Target as code
-use Rattle.py_phrases.specs.Targets.{Assigned}
-use Rattle.py_phrases.specs.Targets.{target_nesting}
+use Rattle.py_phrases.specs.Targets.{Assigned, target_nesting}
 use Rattle.py_phrases.specs.Ends.{IsEnd}
-use Rattle.py_phrases.specs.declared.phrase.Stop.{Stop}
-use Rattle.py_phrases.specs.declared.reader.Reader.{Reader}
-use Rattle.py_phrases.specs.Machine as m
-use Rattle.py_phrases.specs.Machine.{Read, read_to, with_rest, finish, run}
 use Rattle.py_phrases.specs.Emitted.{emit}
-use Rattle.py_phrases.specs.Views.{steps_of, frames_of, mode_of}
+use Rattle.py_phrases.specs.Views.{steps_of}
 
 -- the phrase is one of level k at the front of s, spells e, and r follows it
 pub record Is (phrase : Phrase) (k : Level) (s r : Tokens) (e : Expression) : Type 0 where
@@ -31,19 +26,6 @@ pub record Is (phrase : Phrase) (k : Level) (s r : Tokens) (e : Expression) : Ty
 abbrev pub AtFront : Level → Tokens → Option Phrase → Type 0
 AtFront k s (Some phrase) = (e : Expression) × Is phrase k s phrase.rest.now e
 AtFront k s None = (r : Tokens) (e : Expression) → Spells k s r e → IsEnd k r → ⊥
-
--- what the machine reads, as the code keeps it
-abbrev pub as_read : Option Phrase → Option Read
-as_read None = None
-as_read (Some phrase) = Some (read_to (steps_of phrase.steps.items) phrase.rest.now)
-
--- where the reading stops, it goes on as the machine does
-abbrev pub stopped : Option Stop → Tokens → Reader → Option Read
-stopped None tokens r = None
-stopped (Some s) tokens r = with_rest (drop s.place tokens) (finish (mode_of s.mode) (frames_of r.frames.items) (steps_of r.steps.items))
-
-abbrev pub Stops : Level → Tokens → Reader → Reader → Option Stop → Type 0
-Stops k tokens old new stop = stopped stop tokens new ≡ run k tokens m.Next (frames_of old.frames.items) (steps_of old.steps.items)
 
 -- the tree of e exactly where e is nested at most 200 deep
 abbrev pub IsExpression : Expression → Built Expr → Type 0

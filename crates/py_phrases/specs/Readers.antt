@@ -1,14 +1,17 @@
 -- No definition of the language: what the code keeps as the machine keeps it, and what it does with a token as the machine does.
-use Rattle.std.specs.Prelude.{◌≡◌, take, List, ◌∷◌, Option, Some, None}
+use Rattle.std.specs.Prelude.{◌≡◌, take, drop, List, ◌∷◌, Option, Some, None}
 use Rattle.py_lexer.specs.declared.token.Token.{Token}
 use Rattle.py_phrases.specs.declared.machine.Mode as code
 use Rattle.py_phrases.specs.declared.machine.Frame.{Frame}
 use Rattle.py_phrases.specs.declared.reader.Reader.{Reader}
 use Rattle.py_phrases.specs.declared.call.Call.{Call}
+use Rattle.py_phrases.specs.declared.phrase.Phrase.{Phrase}
+use Rattle.py_phrases.specs.declared.phrase.Stop.{Stop}
 use Rattle.py_tree.specs.Syntax.{Text}
+use Rattle.py_phrases.specs.Grammar.{Tokens, Level}
 use Rattle.py_phrases.specs.Machine as m
-use Rattle.py_phrases.specs.Machine.{Frames, Mode, State, Done, state, done, call, step, closed_before, Have, Compared, MakeCall}
-use Rattle.py_phrases.specs.Views.{frames_of, steps_of, maybe_mode, rest, Moved, moved}
+use Rattle.py_phrases.specs.Machine.{Frames, Mode, State, Done, Read, state, done, call, step, closed_before, Have, Compared, MakeCall, read_to, with_rest, finish, run}
+use Rattle.py_phrases.specs.Views.{frames_of, steps_of, mode_of, maybe_mode, rest, Moved, moved}
 
 abbrev pub kept : Reader → Done
 kept r = done (frames_of r.frames.items) (steps_of r.steps.items)
@@ -41,3 +44,16 @@ Steps mode token old new next =
     let o = steps_of old.steps.items in
     let d = closing mode token fs o in
     moved_to next new ≡ moved (step mode fs o token) d.frames d.steps
+
+-- what the machine reads, as the code keeps it
+abbrev pub as_read : Option Phrase → Option Read
+as_read None = None
+as_read (Some phrase) = Some (read_to (steps_of phrase.steps.items) phrase.rest.now)
+
+-- where the reading stops, it goes on as the machine does
+abbrev pub stopped : Option Stop → Tokens → Reader → Option Read
+stopped None tokens r = None
+stopped (Some s) tokens r = with_rest (drop s.place tokens) (finish (mode_of s.mode) (frames_of r.frames.items) (steps_of r.steps.items))
+
+abbrev pub Stops : Level → Tokens → Reader → Reader → Option Stop → Type 0
+Stops k tokens old new stop = stopped stop tokens new ≡ run k tokens m.Next (frames_of old.frames.items) (steps_of old.steps.items)

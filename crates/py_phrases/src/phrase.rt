@@ -3,7 +3,8 @@ ghost use Rattle.py_phrases.specs.Grammar.{E, L};
 ghost use Rattle.py_phrases.specs.Machine as m;
 ghost use Rattle.py_phrases.specs.Views.{mode_of, level_of, frames_of, steps_of};
 ghost use Rattle.py_phrases.specs.declared.phrase.Stop.{Stop};
-ghost use Rattle.py_phrases.specs.Phrases.{as_read, Stops, AtFront, BuildsExpression, BuildsTarget};
+ghost use Rattle.py_phrases.specs.Phrases.{AtFront, BuildsExpression, BuildsTarget};
+ghost use Rattle.py_phrases.specs.Readers.{as_read, Stops};
 
 use crate::build::build;
 use crate::level;
