@@ -1,9 +1,7 @@
 -- Grouping parentheses add nothing, and chains group to the left.
-use Rattle.std.proofs.Common.{◌≡◌, ◌∷◌}
-use Rattle.py_tree.specs.Syntax as x
+use Rattle.std.proofs.Common.{◌∷◌}
 use Rattle.py_tree.specs.Syntax.{Expression}
 use Rattle.py_lexer.specs.declared.token.Token.{Token}
-use Rattle.py_phrases.specs.Tokens as t
 use Rattle.py_phrases.specs.Grammar as g
 use Rattle.py_phrases.specs.Grammar.{Tokens, Level, P, U, M, S, C, N, A, O, E, L, Spells}
 use Rattle.py_phrases.specs.Ends.{IsEnd}
