@@ -8,6 +8,7 @@ use Rattle.py_phrases.specs.Ends.{IsEnd}
 use Rattle.py_phrases.specs.Laws as law
 use Rattle.py_phrases.specs.Laws.{Grouped, GroupedAlone, Chain, LeftGrouped}
 use Rattle.py_phrases.proofs.Builds.{Same, one_front}
+use Rattle.py_phrases.proofs.TargetPhrases.{primary_is}
 
 -- ---- a phrase is a looser one too
 
@@ -29,8 +30,8 @@ stands C d = g.uncompared (sum_is d)
 stands N d = negation_is (sum_is d)
 stands A d = g.a_conjunct (negation_is (sum_is d))
 stands O d = g.a_disjunct (g.a_conjunct (negation_is (sum_is d)))
-stands E d = expression_is (g.a_conjunct (negation_is (sum_is d)))
-stands L d = g.single (expression_is (g.a_conjunct (negation_is (sum_is d))))
+stands E d = primary_is d
+stands L d = g.single (primary_is d)
 
 whole : (k : Level) {s r : Tokens} {e : Expression} → IsEnd k r → Spells E s r e → Spells k s r e
 whole L h d = g.single d
