@@ -2,6 +2,10 @@
 #![tactic(auto)]
 
 #[cfg(test)]
+mod answer;
+#[cfg(test)]
 mod blocks;
 #[cfg(test)]
 mod lines;
+#[cfg(test)]
+mod phrases;
