@@ -5,3 +5,5 @@
 mod blocks;
 #[cfg(test)]
 mod lines;
+#[cfg(test)]
+mod sources;
