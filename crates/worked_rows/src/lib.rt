@@ -9,3 +9,5 @@ mod blocks;
 mod lines;
 #[cfg(test)]
 mod phrases;
+#[cfg(test)]
+mod sources;
