@@ -7,3 +7,4 @@ pub mod PartFaults
 pub mod Trees
 pub mod Statics
 pub mod Arguments
+pub mod OneBinding

@@ -8,6 +8,7 @@ ghost use Rattle.symbols.specs.Classes.{classes_in};
 ghost use Rattle.symbols.specs.Functions.{locals_in};
 ghost use Rattle.symbols.specs.Located.{located};
 ghost use Rattle.symbols.specs.Parts.{IsPartsOf};
+ghost use Rattle.symbols.specs.Uses.{EachUseIsBound};
 
 use crate::bases::copy_texts;
 use crate::binding::Binding;
@@ -54,6 +55,11 @@ pub fn resolve(alloc: Global, tree: &Module, outer: &Outer) -> Result<Resolved, 
     };
     resolve_parts(alloc, tree, outer, &parts)
 }
+
+/// Every use of a name has exactly one binding.
+pub fn one_binding()
+    ensures { EachUseIsBound }
+{}
 
 fn resolve_parts(
     alloc: Global,
