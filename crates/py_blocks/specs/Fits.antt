@@ -1,26 +1,8 @@
 -- That no integer literal in rows of forms is above the greatest `int`.
-use Rattle.std.specs.Prelude.{Bool, true, ◌&&◌, Some, None}
+use Rattle.std.specs.Prelude.{Bool}
 use Rattle.std.specs.List.{list_all}
-use Rattle.py_tree.specs.Literals.{fits, maybe_fits, params_fit, target_fits, kind_fits}
-use Rattle.py_expr.specs.Forms as form
-use Rattle.py_expr.specs.Forms.{Form, Head}
+use Rattle.py_expr.specs.Literals.{form_fits}
 use Rattle.py_blocks.specs.Blocks.{Rows}
-
-abbrev pub head_fits : Head → Bool
-head_fits (form.If e) = fits e
-head_fits (form.Elif e) = fits e
-head_fits form.Else = true
-head_fits (form.While e) = fits e
-head_fits (form.For g e) = target_fits g && fits e
-head_fits form.Try = true
-head_fits (form.Except matches name) = maybe_fits matches
-head_fits (form.Def name params result) = params_fit params && maybe_fits result
-head_fits (form.Class name base) = maybe_fits base
-
-abbrev pub form_fits : Form → Bool
-form_fits (form.Header h None) = head_fits h
-form_fits (form.Header h (Some k)) = head_fits h && kind_fits k
-form_fits (form.Simple k) = kind_fits k
 
 abbrev pub forms_fit : Rows → Bool
 forms_fit rows = list_all (λ t. form_fits t.form) rows

@@ -15,3 +15,4 @@ pub mod Places
 pub mod Heads
 pub mod WholeLines
 pub mod LineAnswering
+pub mod Fitting

@@ -1,6 +1,7 @@
 pub mod Forms
 pub mod Lines
 pub mod Depth
+pub mod Literals
 pub mod LineAnswers
 pub mod Readings
 pub mod LineEnds

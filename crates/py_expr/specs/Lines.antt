@@ -10,7 +10,7 @@ use Rattle.py_tree.specs.declared.statement.Import.{Import}
 use Rattle.py_lexer.specs.declared.token.Token.{Token}
 use Rattle.py_lexer.specs.declared.token.Token.TheVariants as token
 use Rattle.py_phrases.specs.Tokens as t
-use Rattle.py_phrases.specs.Grammar.{Tokens, Spells, P, E, L}
+use Rattle.py_phrases.specs.Grammar.{Tokens, Spells, E, L}
 use Rattle.py_expr.specs.Forms as form
 use Rattle.py_expr.specs.Forms.{Form, Head}
 use Rattle.py_phrases.specs.Targets.{Names, Place, Assigned}

@@ -6,6 +6,7 @@ ghost use Rattle.py_phrases.specs.Grammar.{Tokens};
 ghost use Rattle.py_expr.specs.LineEnds.{Anything};
 ghost use Rattle.py_expr.specs.Lines.{HeadAt};
 ghost use Rattle.py_expr.specs.LineAnswers.{AtMostOneForm, IsAnswered, IsSo};
+ghost use Rattle.py_expr.specs.Literals.{FormsFit};
 ghost use Rattle.py_expr.specs.Readings.{IsFound, both_built, built_on};
 ghost use Rattle.py_expr.specs.Statements.{FormAt, HasNoHead};
 ghost use Rattle.py_expr.specs.declared.form.Form.TheVariants as form;
@@ -43,6 +44,11 @@ pub fn line_form(alloc: Global, line: &LogicalLine) -> Result<Form, Stop>
 /// The tokens of a line spell at most one form.
 pub fn one_form()
     ensures { AtMostOneForm }
+{}
+
+/// No literal of a form is above the greatest `int` where no integer among its tokens is.
+pub fn forms_fit()
+    ensures { FormsFit }
 {}
 
 fn refused(line: &LogicalLine, code: Code) -> Stop

@@ -14,3 +14,4 @@ pub mod Shorter
 pub mod Steps
 pub mod WholeText
 pub mod Covered
+pub mod Fitting

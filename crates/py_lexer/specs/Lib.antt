@@ -7,5 +7,6 @@ pub mod Strings
 pub mod Tokens
 pub mod Pieces
 pub mod Lexing
+pub mod Literals
 pub mod Views
 pub mod Reading

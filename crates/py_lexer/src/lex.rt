@@ -2,6 +2,7 @@ ghost use Rattle.std.specs.Prelude.{◌≡◌, ◌≤◌, ◌<◌, ◌+◌, ◌^
 ghost use Rattle.py_lexer.specs.declared.piece.Piece.{Piece};
 ghost use Rattle.py_lexer.specs.Characters.{line_feeds};
 ghost use Rattle.py_lexer.specs.Lexing.{IsAnswered, IsSo, OneReading, SameKeywords, line_of, lines_of, without_mark};
+ghost use Rattle.py_lexer.specs.Literals.{LexedFit};
 ghost use Rattle.py_lexer.specs.Views.{IsDecoded, IsRead, grouped};
 
 use crate::piece::{Piece, Place, fault, next_piece};
@@ -33,6 +34,11 @@ pub fn lex(alloc: Global, text: &[u8]) -> Result<LogicalLines, Stop>
 /// A text has one reading.
 pub fn one_reading()
     ensures { OneReading }
+{}
+
+/// No integer among the tokens that bytes lex to is above the greatest `int`.
+pub fn lexed_fit()
+    ensures { LexedFit }
 {}
 
 /// A name is a keyword, as far as modules' names go, exactly where its token is one.

@@ -12,3 +12,4 @@ pub mod Taking
 pub mod Answering
 pub mod TargetPhrases
 pub mod PhraseTargets
+pub mod Fitting

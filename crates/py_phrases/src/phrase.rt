@@ -1,6 +1,6 @@
 ghost use Rattle.std.specs.Prelude.{◌≡◌, ◌≤◌, if◌then◌else◌, length, Some, None, IfOk};
 ghost use Rattle.py_phrases.specs.Grammar.{E, L};
-ghost use Rattle.py_phrases.specs.Laws.{OnePhrase};
+ghost use Rattle.py_phrases.specs.Laws.{LiteralsFit, OnePhrase};
 ghost use Rattle.py_phrases.specs.Machine as m;
 ghost use Rattle.py_phrases.specs.Views.{mode_of, level_of, frames_of, steps_of};
 ghost use Rattle.py_phrases.specs.declared.phrase.Stop.{Stop};
@@ -179,6 +179,11 @@ pub fn expression_at<'a>(
 /// At most one phrase stands at a front and ends where such a phrase may end.
 pub fn one_phrase()
     ensures { OnePhrase }
+{}
+
+/// No literal of a phrase is above the greatest `int` where no integer among its tokens is.
+pub fn literals_fit()
+    ensures { LiteralsFit }
 {}
 
 impl<'a> Phrase<'a> {
