@@ -1,4 +1,4 @@
-ghost use Rattle.std.specs.Prelude.{◌≡◌, ◌∷◌, IfOk, map, option_map};
+ghost use Rattle.std.specs.Prelude.{◌≡◌, ◌∷◌, IfOk, option_map};
 ghost use Rattle.py_tree.specs.Joined.{expression_of, kind_of, maybe_of, statements_of};
 ghost use Rattle.py_tree.specs.Syntax.{Except, If, On, Tested, end_of_branches};
 ghost use Rattle.py_blocks.specs.Machine.{branches_onto};

@@ -1,10 +1,10 @@
-ghost use Rattle.std.specs.Prelude.{◌≡◌, ℕ, IfOk, map, option_map};
+ghost use Rattle.std.specs.Prelude.{◌≡◌, ℕ, IfOk, option_map};
 ghost use Rattle.py_expr.specs.Forms as form;
 ghost use Rattle.py_expr.specs.Forms.{form_of, head_of, maybe_kind_of};
 ghost use Rattle.py_tree.specs.Joined.{expression_of, kind_of, maybe_of, statements_of};
 ghost use Rattle.py_tree.specs.Syntax.{On};
 ghost use Rattle.py_blocks.specs.Machine as machine;
-ghost use Rattle.py_blocks.specs.Views.{block_of, branches_of, clauses_of, last_of, maybe_owner_of, owner_of, placed_of};
+ghost use Rattle.py_blocks.specs.Views.{block_of, clauses_of, last_of, maybe_owner_of, owner_of, placed_of};
 
 use crate::open_block::{Block, Last, Owner, settled, with_statement};
 use py_expr::form::{Form, Head};
@@ -262,7 +262,6 @@ impl Last {
 }
 
 /// Whether a clause may stand behind these: behind one that takes all exceptions none may.
-
 fn takes_clause(clauses: &[Clause]) -> bool
     ensures { result ≡ machine.takes_clause (clauses_of clauses.now) }
 {

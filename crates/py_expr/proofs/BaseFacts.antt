@@ -5,7 +5,6 @@ use Rattle.py_tree.specs.Syntax.{Text, Expression}
 use Rattle.py_tree.specs.Joined.{expression_of, maybe_of}
 use Rattle.py_tree.specs.declared.expression.Expr.{Expr}
 use Rattle.py_lexer.specs.declared.token.Token.TheVariants as token
-use Rattle.py_expr.specs.declared.found.Found as reading
 use Rattle.py_phrases.specs.declared.phrase.Built.TheVariants.{Shallow}
 use Rattle.py_phrases.specs.Tokens as t
 use Rattle.py_phrases.specs.Grammar.{Tokens}
@@ -13,7 +12,7 @@ use Rattle.py_expr.specs.Lines as l
 use Rattle.py_expr.specs.Lines.{Base}
 use Rattle.py_expr.specs.LineEnds.{Anything}
 use Rattle.py_expr.specs.Depth.{maybe_nesting}
-use Rattle.py_expr.specs.Readings.{Same, IsBuilt, IsFound, FoundAt, BaseBehind}
+use Rattle.py_expr.specs.Readings.{Same, IsBuilt, IsFound, BaseBehind}
 use Rattle.py_expr.proofs.OneForm.{behind}
 
 none_built : IsBuilt {T = Option Expr} maybe_of maybe_nesting None (Shallow None)
@@ -44,12 +43,6 @@ no_empty_base s inner h name closed q z d i = at s q z d h where
   at _ q _ l.empty_base e = closed q (ap behind (sym e))
   at _ q _ (l.named_base {b = b}) e = name b (t.right_paren ∷ t.colon ∷ q) (ap behind (sym e))
   at _ q _ (l.dotted_base {m = m} {b = b}) e = name m (t.dot ∷ token.Name b ∷ t.right_paren ∷ t.colon ∷ q) (ap behind (sym e))
-
-pub behind_name : (s inner m : Tokens) (n : Text) (o : Option (reading.Found (Option Expr))) → s ≡ t.left_paren ∷ inner → inner ≡ token.Name n ∷ m → FoundAt (BaseBehind n) Anything maybe_of maybe_nesting m o → FoundAt Base Anything maybe_of maybe_nesting s o
-behind_name s inner m n o h k f = subst (λ y. FoundAt Base Anything maybe_of maybe_nesting y o) (sym (h ∙ ap (λ y. t.left_paren ∷ y) k)) (same o f) where
-  same : (o : Option (reading.Found (Option Expr))) → FoundAt (BaseBehind n) Anything maybe_of maybe_nesting m o → FoundAt Base Anything maybe_of maybe_nesting (t.left_paren ∷ token.Name n ∷ m) o
-  same None f = f
-  same (Some found) f = record { thing = f.thing; stands = f.stands; only = f.only; is_built = f.is_built }
 
 pub named_found : (n : Text) (s m : Tokens) (e : Expr) → s ≡ t.right_paren ∷ t.colon ∷ m → expression_of e ≡ syntax.Name n → IsFound (BaseBehind n) Anything maybe_of maybe_nesting s (Shallow (Some e)) m
 named_found n s m e h made =

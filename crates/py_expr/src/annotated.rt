@@ -1,10 +1,10 @@
-ghost use Rattle.std.specs.Prelude.{◌≡◌, ◌∷◌, IfOk};
+ghost use Rattle.std.specs.Prelude.{◌∷◌, IfOk};
 ghost use Rattle.py_lexer.specs.declared.token.Token.TheVariants as token;
-ghost use Rattle.py_tree.specs.Joined.{expression_of};
 ghost use Rattle.py_tree.specs.Syntax as x;
 ghost use Rattle.py_phrases.specs.Tokens as t;
 ghost use Rattle.py_expr.specs.Statements.{AnnotatesAt, StatementAt};
 
+use crate::expressions::named;
 use crate::found::both;
 use crate::made::annotating;
 use crate::whole::{Whole, annotation};
@@ -13,7 +13,7 @@ use py_phrases::phrase::Built;
 use py_tree::expression::{Expr, Target};
 use py_tree::statement::StmtKind;
 use py_tree::text::Text;
-use std::alloc::{AllocError, Global};
+use std::alloc::Global;
 
 /// A target with its annotation and value.
 type Annotation = (Target, (Expr, Option<Expr>));
@@ -27,12 +27,6 @@ fn of_name(alloc: Global, name: &Text, tokens: &[Token]) -> Whole<Annotation>
         Some(annotation) => Ok(Some(both(Built::Shallow(Target::Name(target)), annotation))),
         None => Ok(None),
     }
-}
-
-fn named(alloc: Global, name: &Text) -> Result<Expr, AllocError>
-    ensures { IfOk result (λ made. expression_of made ≡ x.Name name.now) }
-{
-    Ok(Expr::Name(name.copy(alloc)?))
 }
 
 /// The attribute of a name with what all the tokens are.

@@ -7,6 +7,7 @@ ghost use Rattle.py_expr.specs.LineEnds.{Anything};
 ghost use Rattle.py_expr.specs.Depth.{maybe_nesting};
 ghost use Rattle.py_expr.specs.Readings.{BaseBehind, FoundAt};
 
+use crate::expressions::named;
 use crate::found::{Found, Reading, absent};
 use crate::front::{after_closed_head, after_mark, after_name};
 use py_lexer::token::{Mark, Token};
@@ -62,12 +63,6 @@ fn a_base(base: Expr, rest: &[Token]) -> Found<'_, Option<Expr>>
         built: Built::Shallow(Some(base)),
         rest,
     }
-}
-
-fn named(alloc: Global, name: &Text) -> Result<Expr, AllocError>
-    ensures { IfOk result (λ made. expression_of made ≡ x.Name name.now) }
-{
-    Ok(Expr::Name(name.copy(alloc)?))
 }
 
 fn dotted(alloc: Global, name: &Text, member: &Text) -> Result<Expr, AllocError>

@@ -1,6 +1,7 @@
-ghost use Rattle.std.specs.Prelude.{IfOk};
+ghost use Rattle.std.specs.Prelude.{◌≡◌, IfOk};
 ghost use Rattle.py_tree.specs.Joined.{expression_of};
 ghost use Rattle.py_tree.specs.Nesting.{nesting};
+ghost use Rattle.py_tree.specs.Syntax as x;
 ghost use Rattle.py_phrases.specs.Grammar.{E, L, Spells};
 ghost use Rattle.py_phrases.specs.Ends.{IsEnd};
 ghost use Rattle.py_expr.specs.LineEnds.{Anything};
@@ -11,7 +12,15 @@ use crate::front::after_mark;
 use py_lexer::token::{Mark, Token};
 use py_phrases::phrase::{expression_at, list_at};
 use py_tree::expression::Expr;
-use std::alloc::Global;
+use py_tree::text::Text;
+use std::alloc::{AllocError, Global};
+
+/// The expression that is a name.
+pub(crate) fn named(alloc: Global, name: &Text) -> Result<Expr, AllocError>
+    ensures { IfOk result (λ made. expression_of made ≡ x.Name name.now) }
+{
+    Ok(Expr::Name(name.copy(alloc)?))
+}
 
 /// The expression at the front.
 pub(crate) fn expression<'a>(alloc: Global, tokens: &'a [Token]) -> Reading<'a, Expr>

@@ -1,13 +1,12 @@
-ghost use Rattle.std.specs.Prelude.{◌≡◌, ◌∷◌, ◌++◌, [], List, IfOk, Some, None};
+ghost use Rattle.std.specs.Prelude.{◌≡◌, ◌∷◌, ◌++◌, [], List, IfOk};
 ghost use Rattle.py_tree.specs.Joined.{maybe_of, param_of};
-ghost use Rattle.py_tree.specs.Syntax.{Text, Expression, Param as Parsed};
-ghost use Rattle.py_expr.specs.Lines.{Annotation, Default, Parameter, Parameters, Result};
+ghost use Rattle.py_tree.specs.Syntax.{Param as Parsed};
+ghost use Rattle.py_expr.specs.Lines.{Annotation, Default, Result};
 ghost use Rattle.py_expr.specs.LineEnds.{Anything, EndsAnnotation, EndsParameter};
 ghost use Rattle.py_expr.specs.Depth.{maybe_nesting, param_nesting, params_nesting};
 ghost use Rattle.py_expr.specs.Forms.{params_of};
-ghost use Rattle.py_expr.specs.Readings.{FoundAt, IsBuilt, IsClosed, built_on};
+ghost use Rattle.py_expr.specs.Readings.{FoundAt, IsBuilt, IsClosed};
 ghost use Rattle.py_expr.specs.Signatures as spec;
-ghost use Rattle.py_phrases.specs.declared.phrase.Built.TheVariants as Built;
 
 use crate::expressions::{expression, expression_before_colon};
 use crate::found::{Found, Reading, absent, both, present};

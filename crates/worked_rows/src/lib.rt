@@ -2,6 +2,12 @@
 #![tactic(auto)]
 
 #[cfg(test)]
+mod answer;
+#[cfg(test)]
 mod blocks;
 #[cfg(test)]
 mod lines;
+#[cfg(test)]
+mod phrases;
+#[cfg(test)]
+mod sources;

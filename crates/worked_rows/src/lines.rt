@@ -1,22 +1,15 @@
+use crate::answer::fault_in;
 use py_expr::form::Form;
 use py_expr::line::line_form;
 use py_lexer::lex::lex;
 use py_tree::expression::{Expr, Target};
-use py_tree::fault::{Fault, Stop};
+use py_tree::fault::Fault;
 use py_tree::operator::{BinaryOp, CompareOp};
 use py_tree::statement::StmtKind;
-use std::alloc::{AllocError, AllocGlobal, Global};
+use std::alloc::{AllocGlobal, Global};
 use std::fmt::Write;
 use std::process::Abort;
 use std::test::Fail;
-
-fn fault_in<T: Drop>(answer: Result<T, Stop>) -> Result<Option<Fault>, AllocError> {
-    match answer {
-        Ok(_) => Ok(None),
-        Err(Stop::Fault(fault)) => Ok(Some(fault)),
-        Err(Stop::Memory(error)) => Err(error),
-    }
-}
 
 /// The fault of the first line of the text, if there is one.
 fn fault_of(alloc: Global, text: &str) -> Result<Option<Fault>, Fail> {
@@ -358,14 +351,30 @@ fn nested(
     Ok(text)
 }
 
-fn is_refused(alloc: Global, text: &str, code: &str) -> Result<bool, Fail> {
-    Ok(answer(alloc, text)?.starts_with(code))
+/// The answers of lines that have the middle so many times with what stands before and behind it.
+fn nested_answers_agree(
+    rt: &(impl Abort + AllocGlobal),
+    rows: &[(&str, &str)],
+    count: usize,
+    middle: &str,
+    want: &str,
+) -> Result<(), Fail> {
+    for (before, behind) in rows {
+        let text = nested(rt.alloc(), before, behind, count, middle)?;
+        let answer = answer(rt.alloc(), &text)?;
+        assert_eq!(rt; answer.as_str(), want, "at {before}..{behind}");
+    }
+    Ok(())
+}
+
+/// An expression of so many levels.
+fn negations(alloc: Global, levels: usize) -> Result<String, Fail> {
+    nested(alloc, "not ", "", levels.saturating_sub(1), "a")
 }
 
 #[test]
 fn takes_expressions_up_to_nesting_200(rt: HostRuntime) -> Result<(), Fail> {
-    let alloc = rt.alloc();
-    for (before, behind) in [
+    let rows = [
         ("not ", ""),
         ("-", ""),
         ("", ".b"),
@@ -374,13 +383,14 @@ fn takes_expressions_up_to_nesting_200(rt: HostRuntime) -> Result<(), Fail> {
         ("", " + b"),
         ("", " and b"),
         ("", " if b else a"),
-    ] {
-        let text = nested(alloc, before, behind, 199, "a")?;
-        assert!(rt; !is_refused(alloc, &text, "E0")?, "at {before} {behind}");
-        let text = nested(alloc, before, behind, 200, "a")?;
-        assert!(rt; is_refused(alloc, &text, "E08")?, "at {before} {behind}");
-    }
-    for (before, behind) in [
+    ];
+    nested_answers_agree(&rt, &rows, 199, "a", "taken")?;
+    nested_answers_agree(&rt, &rows, 200, "a", "E08 on 1")
+}
+
+#[test]
+fn takes_brackets_up_to_nesting_200(rt: HostRuntime) -> Result<(), Fail> {
+    let rows = [
         ("[", "]"),
         ("(", ",)"),
         ("f(", ")"),
@@ -388,87 +398,79 @@ fn takes_expressions_up_to_nesting_200(rt: HostRuntime) -> Result<(), Fail> {
         ("{k: ", "}"),
         ("{", ": k}"),
         ("a[", "]"),
-    ] {
-        let shallow = nested(
-            alloc,
-            before,
-            behind,
-            100,
-            &nested(alloc, "not ", "", 99, "a")?,
-        )?;
-        assert!(rt; !is_refused(alloc, &shallow, "E0")?, "at {before} {behind}");
-        let deep = nested(
-            alloc,
-            before,
-            behind,
-            100,
-            &nested(alloc, "not ", "", 100, "a")?,
-        )?;
-        assert!(rt; is_refused(alloc, &deep, "E08")?, "at {before} {behind}");
-    }
-    let grouped = nested(alloc, "(", ")", 100, &nested(alloc, "not ", "", 199, "a")?)?;
-    assert!(rt; !is_refused(alloc, &grouped, "E0")?);
-    for (before, behind) in [("not ", ""), ("", " + b")] {
-        let text = nested(alloc, before, behind, 100_000, "a")?;
-        assert!(rt; is_refused(alloc, &text, "E08")?, "at {before} {behind}");
-    }
-    Ok(())
-}
-
-/// The text around an expression of 200 levels, or of 201.
-fn around(alloc: Global, before: &str, levels: usize, behind: &str) -> Result<String, Fail> {
-    let mut text = String::from_str(alloc, before)?;
-    text.push_str(&nested(alloc, "not ", "", levels.saturating_sub(1), "a")?)?;
-    text.push_str(behind)?;
-    Ok(text)
+    ];
+    let shallow = negations(rt.alloc(), 100)?;
+    nested_answers_agree(&rt, &rows, 100, &shallow, "taken")?;
+    let deep = negations(rt.alloc(), 101)?;
+    nested_answers_agree(&rt, &rows, 100, &deep, "E08 on 1")
 }
 
 #[test]
+fn grouping_adds_no_nesting(rt: HostRuntime) -> Result<(), Fail> {
+    let middle = negations(rt.alloc(), 200)?;
+    nested_answers_agree(&rt, &[("(", ")")], 100, &middle, "taken")
+}
+
+#[test]
+fn a_long_chain_is_too_deep(rt: HostRuntime) -> Result<(), Fail> {
+    nested_answers_agree(&rt, &[("not ", ""), ("", " + b")], 100_000, "a", "E08 on 1")
+}
+
+/// What stands around the one expression of a line.
+const PARTS: [(&str, &str); 18] = [
+    ("return ", ""),
+    ("raise ", ""),
+    ("x = ", ""),
+    ("(", ").b = c"),
+    ("x: ", ""),
+    ("x: a = ", ""),
+    ("x.y: ", " = a"),
+    ("x += ", ""),
+    ("if ", ":"),
+    ("elif ", ":"),
+    ("while ", ":"),
+    ("for x in ", ":"),
+    ("except ", ":"),
+    ("except ", " as x:"),
+    ("def f(x: ", " = a, y=b):"),
+    ("def f(x=", ", y=b):"),
+    ("def f() -> ", ":"),
+    ("if a: ", ""),
+];
+
+#[test]
 fn counts_the_nesting_of_each_part(rt: HostRuntime) -> Result<(), Fail> {
-    let alloc = rt.alloc();
-    for (before, behind) in [
-        ("return ", ""),
-        ("raise ", ""),
-        ("x = ", ""),
-        ("(", ").b = c"),
-        ("x: ", ""),
-        ("x: a = ", ""),
-        ("x.y: ", " = a"),
-        ("x += ", ""),
-        ("if ", ":"),
-        ("elif ", ":"),
-        ("while ", ":"),
-        ("for x in ", ":"),
-        ("except ", ":"),
-        ("except ", " as x:"),
-        ("def f(x: ", " = a, y=b):"),
-        ("def f(x=", ", y=b):"),
-        ("def f() -> ", ":"),
-        ("if a: ", ""),
-    ] {
-        let text = around(alloc, before, 200, behind)?;
-        assert!(rt; !is_refused(alloc, &text, "E0")?, "at {before}..{behind}");
-        let text = around(alloc, before, 201, behind)?;
-        assert!(rt; is_refused(alloc, &text, "E08")?, "at {before}..{behind}");
-        // The rest of the line is read before the depth decides.
-        let text = around(alloc, before, 201, &nested(alloc, "", " )", 1, behind)?)?;
-        assert!(rt; is_refused(alloc, &text, "E05")?, "at {before}..{behind}");
+    let shallow = negations(rt.alloc(), 200)?;
+    nested_answers_agree(&rt, &PARTS, 1, &shallow, "taken")?;
+    let deep = negations(rt.alloc(), 201)?;
+    nested_answers_agree(&rt, &PARTS, 1, &deep, "E08 on 1")
+}
+
+#[test]
+fn reads_the_rest_before_the_depth_decides(rt: HostRuntime) -> Result<(), Fail> {
+    let deep = negations(rt.alloc(), 201)?;
+    for (before, behind) in PARTS {
+        let line = nested(rt.alloc(), before, behind, 1, &deep)?;
+        nested_answers_agree(&rt, &[("", " )")], 1, &line, "E05 on 1")?;
     }
     Ok(())
+}
+
+#[test]
+fn a_default_that_is_too_deep_counts(rt: HostRuntime) -> Result<(), Fail> {
+    let deep = negations(rt.alloc(), 201)?;
+    nested_answers_agree(&rt, &[("def f(x=", ", y):")], 1, &deep, "E05 on 1")?;
+    nested_answers_agree(&rt, &[("def f(x=", ", y=1):")], 1, &deep, "E08 on 1")
 }
 
 #[test]
 fn a_target_is_no_expression(rt: HostRuntime) -> Result<(), Fail> {
-    let alloc = rt.alloc();
+    let rows = [("", " = c"), ("", " += c")];
     for again in [".b", "[b]"] {
-        for behind in [" = c", " += c"] {
-            let target = nested(alloc, "", again, 200, "a")?;
-            let text = nested(alloc, "", behind, 1, &target)?;
-            assert!(rt; !is_refused(alloc, &text, "E0")?, "at {again}{behind}");
-            let target = nested(alloc, "", again, 201, "a")?;
-            let text = nested(alloc, "", behind, 1, &target)?;
-            assert!(rt; is_refused(alloc, &text, "E08")?, "at {again}{behind}");
-        }
+        let shallow = nested(rt.alloc(), "", again, 200, "a")?;
+        nested_answers_agree(&rt, &rows, 1, &shallow, "taken")?;
+        let deep = nested(rt.alloc(), "", again, 201, "a")?;
+        nested_answers_agree(&rt, &rows, 1, &deep, "E08 on 1")?;
     }
     Ok(())
 }

@@ -1,0 +1,5 @@
+pub mod Places
+pub mod LineForms
+pub mod OneState
+pub mod Phases
+pub mod Examples

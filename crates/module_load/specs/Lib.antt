@@ -1,0 +1,4 @@
+pub mod Sources
+pub mod Markers
+pub mod Preparing
+pub mod Views

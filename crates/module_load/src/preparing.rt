@@ -1,0 +1,99 @@
+ghost use Rattle.std.specs.Prelude.{◌≡◌, IfOk, chars, true};
+ghost use Rattle.py_tree.specs.Joined.{module_of};
+ghost use Rattle.py_tree.specs.Lawful.{lawful};
+ghost use Rattle.py_tree.specs.declared.fault.Stop.TheVariants as stop;
+ghost use Rattle.module_load.specs.Preparing.{Prepares, fault};
+ghost use Rattle.module_load.specs.Sources.{State, lawful_state, state_of};
+ghost use Rattle.module_load.specs.Views.{IsFormed, IsParsed, IsRead};
+
+use crate::source::{Source, SourceState};
+use crate::top_part::is_marked;
+use py_blocks::building::build;
+use py_blocks::form_line::{FormLine, FormLines};
+use py_expr::line::line_form;
+use py_lexer::lex::lex;
+use py_lexer::marker::marker_line;
+use py_lexer::token::LogicalLine;
+use py_tree::code::Code;
+use py_tree::fault::{Fault, Stop};
+use py_tree::statement::Module;
+use py_tree::text::Text;
+use std::alloc::{AllocError, Global};
+
+/// The greatest size of a file, in bytes.
+const GREATEST_SIZE: usize = 1_048_576;
+
+/// What the bytes of a module's file are by themselves, under the module's name. In time linear in the bytes.
+pub fn prepare(alloc: Global, name: &str, bytes: &[u8]) -> Result<Source, AllocError>
+    ensures name { IfOk result (λ source. source.name ≡ chars name.now) }
+    // What is answered is so.
+    ensures so { IfOk result (λ source. Prepares bytes.now (state_of source.state)) }
+    // What is so is answered.
+    ensures exact { IfOk result (λ source. (state : State) → Prepares bytes.now state → state ≡ state_of source.state) }
+{
+    let name = Text::from_str(alloc, name)?;
+    let state = state(alloc, bytes)?;
+    Ok(Source { name, state })
+}
+
+/// The state of the bytes.
+fn state(alloc: Global, bytes: &[u8]) -> Result<SourceState, AllocError>
+    ensures so { IfOk result (λ state. Prepares bytes.now (state_of state)) }
+    ensures lawful { IfOk result (λ state. lawful_state state ≡ true) }
+{
+    match read(alloc, bytes) {
+        Ok(state) => Ok(state),
+        Err(Stop::Fault(fault)) => Ok(SourceState::Faulty(fault)),
+        Err(Stop::Memory(error)) => Err(error),
+    }
+}
+
+/// The state of the bytes, where they are not refused.
+fn read(alloc: Global, bytes: &[u8]) -> Result<SourceState, Stop>
+    ensures so { IsRead bytes.now result }
+    ensures lawful { IfOk result (λ state. lawful_state state ≡ true) }
+{
+    if bytes.len() > GREATEST_SIZE {
+        return Err(refused(1, Code::FileTooLarge));
+    }
+    let Some(line) = marker_line(bytes) else {
+        return Ok(SourceState::Plain);
+    };
+    let module = parse(alloc, bytes)?;
+    if !is_marked(&module) {
+        return Err(refused(line, Code::MisplacedMarker));
+    }
+    Ok(SourceState::Tree(module))
+}
+
+fn refused(line: u32, code: Code) -> Stop
+    ensures { result ≡ stop.Fault (fault line code) }
+{
+    Stop::Fault(Fault { line, code })
+}
+
+/// The module that the bytes spell.
+fn parse(alloc: Global, bytes: &[u8]) -> Result<Module, Stop>
+    ensures so { IsParsed bytes.now result }
+    ensures lawful { IfOk result (λ made. lawful (module_of made) ≡ true) }
+{
+    let lines = lex(alloc, bytes)?;
+    let forms = forms_of(alloc, lines.as_slice())?;
+    build(alloc, forms)
+}
+
+/// The forms of the lines, or the fault of the first line that has none.
+fn forms_of(alloc: Global, lines: &[LogicalLine]) -> Result<FormLines, Stop>
+    ensures { IsFormed lines.now result }
+{
+    let mut forms = FormLines::new(alloc);
+    for line in lines {
+        let form = line_form(alloc, line)?;
+        forms.push(FormLine {
+            indent: line.indent,
+            line: line.line,
+            form,
+        })?;
+    }
+    Ok(forms)
+}
