@@ -6,6 +6,8 @@ use Rattle.py_tree.specs.Joined.{expression_of, expressions_of, pair_of, pairs_o
 use Rattle.py_tree.specs.declared.expression.Expr.{Expr}
 use Rattle.py_tree.specs.declared.expression.Pair as code_pair
 use Rattle.py_tree.specs.declared.expression.Keyword as code_keyword
+use Rattle.py_phrases.specs.declared.build.BinaryNode.{BinaryNode}
+use Rattle.py_phrases.specs.declared.build.BinaryNode.TheVariants as node
 use Rattle.py_phrases.specs.Emitted.{Taken, TakenPairs, TakenKeywords, name_in}
 
 -- newest first
@@ -45,3 +47,11 @@ keyword_in (x.Paired k v) = x.Named (name_in k) v
 abbrev pub maybe_pair : Option code_pair.Pair → Option x.Pair
 maybe_pair None = None
 maybe_pair (Some p) = Some (pair_of p)
+
+-- the node with both its trees
+abbrev pub binary_of : BinaryNode → Expression → Expression → Expression
+binary_of (node.Binary op) = x.Binary op
+binary_of (node.Compare op) = x.Compare op
+binary_of node.And = x.And
+binary_of node.Or = x.Or
+binary_of node.Index = x.Index

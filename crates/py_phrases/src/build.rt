@@ -2,7 +2,7 @@ ghost use Rattle.std.specs.Prelude.{◌≡◌, ◌++◌, ◌∷◌, reverse, OnO
 ghost use Rattle.py_tree.specs.Joined.{expression_of, expressions_of, pair_of, keyword_of, keywords_of};
 ghost use Rattle.py_tree.specs.Syntax as x;
 ghost use Rattle.py_phrases.specs.Emitted as m;
-ghost use Rattle.py_phrases.specs.Stacks.{trees_of, taken, taken_pairs, taken_keywords, pair_top, below_pair, keyword_in, maybe_pair, BuildsTop};
+ghost use Rattle.py_phrases.specs.Stacks.{trees_of, taken, taken_pairs, taken_keywords, pair_top, below_pair, keyword_in, maybe_pair, binary_of, BuildsTop};
 ghost use Rattle.py_phrases.specs.Views.{step_of, steps_of, top, rest};
 
 use crate::machine::Step;
@@ -109,79 +109,42 @@ fn make_attr(alloc: Global, trees: &mut Vec<Expr>, name: &Text) -> Result<(), Al
     }
 }
 
-fn make_binary(alloc: Global, trees: &mut Vec<Expr>, op: BinaryOp) -> Result<(), AllocError>
-    ensures { OnOk result (trees_of trees.new.items ≡ m.on_two (x.Binary op) (trees_of trees.old.items)) }
-{
-    let Some(b) = trees.pop() else {
-        return Ok(());
-    };
-    let Some(a) = trees.pop() else {
-        return Ok(());
-    };
-    put(
-        trees,
-        Expr::Binary(op, Boxed::new(alloc, a)?, Boxed::new(alloc, b)?),
-    )
+/// A node with a left and a right tree, without them.
+#[derive(Clone, Copy)]
+enum BinaryNode {
+    Binary(BinaryOp),
+    Compare(CompareOp),
+    And,
+    Or,
+    Index,
 }
 
-fn make_compare(alloc: Global, trees: &mut Vec<Expr>, op: CompareOp) -> Result<(), AllocError>
-    ensures { OnOk result (trees_of trees.new.items ≡ m.on_two (x.Compare op) (trees_of trees.old.items)) }
-{
-    let Some(b) = trees.pop() else {
-        return Ok(());
-    };
-    let Some(a) = trees.pop() else {
-        return Ok(());
-    };
-    put(
-        trees,
-        Expr::Compare(op, Boxed::new(alloc, a)?, Boxed::new(alloc, b)?),
-    )
+impl BinaryNode {
+    fn with(self, alloc: Global, left: Expr, right: Expr) -> Result<Expr, AllocError>
+        ensures { IfOk result (λ tree. expression_of tree ≡ binary_of self (expression_of left) (expression_of right)) }
+    {
+        let left = Boxed::new(alloc, left)?;
+        let right = Boxed::new(alloc, right)?;
+        Ok(match self {
+            BinaryNode::Binary(op) => Expr::Binary(op, left, right),
+            BinaryNode::Compare(op) => Expr::Compare(op, left, right),
+            BinaryNode::And => Expr::And(left, right),
+            BinaryNode::Or => Expr::Or(left, right),
+            BinaryNode::Index => Expr::Index(left, right),
+        })
+    }
 }
 
-fn make_and(alloc: Global, trees: &mut Vec<Expr>) -> Result<(), AllocError>
-    ensures { OnOk result (trees_of trees.new.items ≡ m.on_two x.And (trees_of trees.old.items)) }
+fn make_binary(alloc: Global, trees: &mut Vec<Expr>, node: BinaryNode) -> Result<(), AllocError>
+    ensures { OnOk result (trees_of trees.new.items ≡ m.on_two (binary_of node) (trees_of trees.old.items)) }
 {
-    let Some(b) = trees.pop() else {
+    let Some(right) = trees.pop() else {
         return Ok(());
     };
-    let Some(a) = trees.pop() else {
+    let Some(left) = trees.pop() else {
         return Ok(());
     };
-    put(
-        trees,
-        Expr::And(Boxed::new(alloc, a)?, Boxed::new(alloc, b)?),
-    )
-}
-
-fn make_or(alloc: Global, trees: &mut Vec<Expr>) -> Result<(), AllocError>
-    ensures { OnOk result (trees_of trees.new.items ≡ m.on_two x.Or (trees_of trees.old.items)) }
-{
-    let Some(b) = trees.pop() else {
-        return Ok(());
-    };
-    let Some(a) = trees.pop() else {
-        return Ok(());
-    };
-    put(
-        trees,
-        Expr::Or(Boxed::new(alloc, a)?, Boxed::new(alloc, b)?),
-    )
-}
-
-fn make_index(alloc: Global, trees: &mut Vec<Expr>) -> Result<(), AllocError>
-    ensures { OnOk result (trees_of trees.new.items ≡ m.on_two x.Index (trees_of trees.old.items)) }
-{
-    let Some(b) = trees.pop() else {
-        return Ok(());
-    };
-    let Some(a) = trees.pop() else {
-        return Ok(());
-    };
-    put(
-        trees,
-        Expr::Index(Boxed::new(alloc, a)?, Boxed::new(alloc, b)?),
-    )
+    put(trees, node.with(alloc, left, right)?)
 }
 
 /// A conditional from its parts.
@@ -426,15 +389,15 @@ fn grow(alloc: Global, trees: &mut Vec<Expr>, step: Step) -> Result<(), AllocErr
         Step::MakeList(n) => make_list(alloc, trees, n),
         Step::MakeDict(n) => make_dict(alloc, trees, n),
         Step::MakeUnary(op) => make_unary(alloc, trees, op),
-        Step::MakeBinary(op) => make_binary(alloc, trees, op),
-        Step::MakeCompare(op) => make_compare(alloc, trees, op),
+        Step::MakeBinary(op) => make_binary(alloc, trees, BinaryNode::Binary(op)),
+        Step::MakeCompare(op) => make_binary(alloc, trees, BinaryNode::Compare(op)),
         Step::MakeIs(negated, right) => make_is(alloc, trees, negated, right),
         Step::MakeNot => make_not(alloc, trees),
-        Step::MakeAnd => make_and(alloc, trees),
-        Step::MakeOr => make_or(alloc, trees),
+        Step::MakeAnd => make_binary(alloc, trees, BinaryNode::And),
+        Step::MakeOr => make_binary(alloc, trees, BinaryNode::Or),
         Step::MakeCond => make_cond(alloc, trees),
         Step::MakeAttr(name) => make_attr(alloc, trees, name),
-        Step::MakeIndex => make_index(alloc, trees),
+        Step::MakeIndex => make_binary(alloc, trees, BinaryNode::Index),
         Step::MakeCall(n, k) => make_call(alloc, trees, n, k),
     }
 }
