@@ -158,36 +158,19 @@ fn conditional(alloc: Global, yes: Expr, test: Expr, no: Expr) -> Result<Expr, A
     })
 }
 
-fn make_cond_of(
-    alloc: Global,
-    trees: &mut Vec<Expr>,
-    test: Expr,
-    no: Expr,
-) -> Result<(), AllocError>
-    ensures { OnOk result (trees_of trees.new.items ≡ m.on_one (λ yes. x.Cond (expression_of test) yes (expression_of no)) (trees_of trees.old.items)) }
-{
-    match trees.pop() {
-        Some(yes) => put(trees, conditional(alloc, yes, test, no)?),
-        None => Ok(()),
-    }
-}
-
-fn make_cond_with(alloc: Global, trees: &mut Vec<Expr>, no: Expr) -> Result<(), AllocError>
-    ensures { OnOk result (trees_of trees.new.items ≡ m.on_two (λ yes test. x.Cond test yes (expression_of no)) (trees_of trees.old.items)) }
-{
-    match trees.pop() {
-        Some(test) => make_cond_of(alloc, trees, test, no),
-        None => Ok(()),
-    }
-}
-
 fn make_cond(alloc: Global, trees: &mut Vec<Expr>) -> Result<(), AllocError>
     ensures { OnOk result (trees_of trees.new.items ≡ m.on_three (λ a b c. x.Cond b a c) (trees_of trees.old.items)) }
 {
-    match trees.pop() {
-        Some(no) => make_cond_with(alloc, trees, no),
-        None => Ok(()),
-    }
+    let Some(no) = trees.pop() else {
+        return Ok(());
+    };
+    let Some(test) = trees.pop() else {
+        return Ok(());
+    };
+    let Some(yes) = trees.pop() else {
+        return Ok(());
+    };
+    put(trees, conditional(alloc, yes, test, no)?)
 }
 
 fn take_top(trees: &mut Vec<Expr>) -> Option<Expr>
