@@ -307,40 +307,6 @@ fn take_keywords(
     Ok(Some(Items::from_vec(keywords)))
 }
 
-fn make_call_of(
-    alloc: Global,
-    trees: &mut Vec<Expr>,
-    args: Exprs,
-    keys: Keywords,
-) -> Result<(), AllocError>
-    ensures { OnOk result (trees_of trees.new.items ≡ m.on_one (λ a. x.Call a (expressions_of args) (keywords_of keys)) (trees_of trees.old.items)) }
-{
-    match trees.pop() {
-        Some(callee) => {
-            let callee = Boxed::new(alloc, callee)?;
-            put(trees, Expr::Call { callee, args, keys })
-        }
-        None => Ok(()),
-    }
-}
-
-fn make_call_with(
-    alloc: Global,
-    trees: &mut Vec<Expr>,
-    count: usize,
-    keys: Keywords,
-) -> Result<(), AllocError>
-    ensures { OnOk result (trees_of trees.new.items ≡ m.put_call (keywords_of keys) (m.take_items count x.end_of_expressions (trees_of trees.old.items))) }
-{
-    match take_items(alloc, trees, count)? {
-        Some(args) => make_call_of(alloc, trees, args, keys),
-        None => {
-            trees.clear();
-            Ok(())
-        }
-    }
-}
-
 fn make_call(
     alloc: Global,
     trees: &mut Vec<Expr>,
@@ -349,13 +315,19 @@ fn make_call(
 ) -> Result<(), AllocError>
     ensures { OnOk result (trees_of trees.new.items ≡ m.on_call count (m.take_keywords keywords x.end_of_keywords (trees_of trees.old.items))) }
 {
-    match take_keywords(alloc, trees, keywords)? {
-        Some(keys) => make_call_with(alloc, trees, count, keys),
-        None => {
-            trees.clear();
-            Ok(())
-        }
-    }
+    let Some(keys) = take_keywords(alloc, trees, keywords)? else {
+        trees.clear();
+        return Ok(());
+    };
+    let Some(args) = take_items(alloc, trees, count)? else {
+        trees.clear();
+        return Ok(());
+    };
+    let Some(callee) = trees.pop() else {
+        return Ok(());
+    };
+    let callee = Boxed::new(alloc, callee)?;
+    put(trees, Expr::Call { callee, args, keys })
 }
 
 fn grow(alloc: Global, trees: &mut Vec<Expr>, step: Step) -> Result<(), AllocError>
