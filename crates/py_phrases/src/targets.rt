@@ -103,24 +103,17 @@ fn attribute(alloc: Global, object: &[Step], name: &Text) -> Result<Option<Targe
     }
 }
 
-fn index_of(objects: Vec<Expr>, place: Expr) -> Option<Target>
-    ensures { m.maybe_target result ≡ m.to_index (expression_of place ∷ trees_of objects.items) }
-{
-    let mut objects = objects;
-    match objects.pop() {
-        Some(object) => Some(Target::Index(object, place)),
-        None => None,
-    }
-}
-
 fn index(alloc: Global, steps: &[Step]) -> Result<Option<Target>, AllocError>
     ensures { IfOk result (λ target. m.maybe_target target ≡ m.to_index (trees (steps_of steps.now))) }
 {
     let mut objects = build_all(alloc, steps)?;
-    match objects.pop() {
-        Some(place) => Ok(index_of(objects, place)),
-        None => Ok(None),
-    }
+    let Some(place) = objects.pop() else {
+        return Ok(None);
+    };
+    let Some(object) = objects.pop() else {
+        return Ok(None);
+    };
+    Ok(Some(Target::Index(object, place)))
 }
 
 fn by_newest(alloc: Global, step: Step, before: &[Step]) -> Result<Option<Target>, AllocError>
