@@ -61,6 +61,13 @@ settled_some : (done : List Statement) (n : ℕ) (body : Statements) (ys : List 
 settled_some done n body [] y = refl
 settled_some done n body (z ∷ ys) y = refl
 
+pub settled_clauses : (done : List Statement) (n : ℕ) (body : Statements) (cs : List x.Clause) → (cs ≡ [] → ⊥)
+    → settled done (OpenTry n body (reverse cs)) ≡ Some (x.On n (x.Try body (clauses cs)) ∷ done)
+settled_clauses done n body [] some = absurd (some refl)
+settled_clauses done n body (c ∷ cs) some =
+    ap (λ ys. settled done (OpenTry n body ys)) (reverse-cons c cs) ∙ settled_some done n body (reverse cs) c
+    ∙ ap (λ ys. Some (x.On n (x.Try body ys) ∷ done)) (ap (λ ys. clauses_onto ys x.end_of_clauses) (sym (reverse-cons c cs)) ∙ clauses_whole (c ∷ cs))
+
 -- ---- with the trees of the program
 
 -- one layer of a statement
