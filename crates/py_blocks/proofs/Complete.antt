@@ -4,11 +4,11 @@ use Rattle.std.proofs.lemmas.Bool.{ne_eqb}
 use Rattle.py_tree.specs.Syntax as x
 use Rattle.py_tree.specs.Syntax.{Kind, Statement, Statements, Branches, Clauses}
 use Rattle.py_expr.specs.Forms as form
-use Rattle.py_expr.specs.Forms.{Form, Head}
+use Rattle.py_expr.specs.Forms.{Form}
 use Rattle.py_blocks.specs.Rows.{Row}
 use Rattle.py_blocks.specs.Blocks.{Rows, Context, Code, StatementsAt, StatementAt, BodyAt, ElifsAt, ClausesAt, ModuleAt, behind, no_statement, a_statement, a_simple, an_if, a_while, a_for, a_try, a_def, a_class, beside, below, no_elif, an_else, an_elif, last_clause, a_clause}
 use Rattle.py_blocks.specs.Machine as m
-use Rattle.py_blocks.specs.Machine.{Owner, Last, Whole, OpenIf, OpenTry, Block, Frame, State, Placed, onto, branches_onto, clauses_onto, alone, inside, claused, fresh, put, settled, takes_clause, starts, and_then, beside_head, begin, place, placed, above, place_in, place_back, below_head, step, run, close, finish, start}
+use Rattle.py_blocks.specs.Machine.{Owner, Last, Whole, OpenIf, OpenTry, Block, Frame, State, Placed, onto, branches_onto, clauses_onto, alone, inside, claused, fresh, put, settled, takes_clause, and_then, beside_head, begin, place, placed, above, place_in, place_back, below_head, step, run, close, finish, start}
 use Rattle.py_blocks.proofs.Remains.{Ends, Handlers, no_more, more, Tail, TailOf, Owned, Then, Up, Completes, Sorted, Begins_statement}
 
 pub put_indent : (o : Owner) (body : Statements) (b : Block) → (put o body b).indent ≡ b.indent

@@ -3,7 +3,7 @@ use Rattle.std.proofs.Common.{◌≡◌, ℕ, Bool, true, false, ◌||◌, List,
 use Rattle.std.specs.List.{list_any}
 use Rattle.std.proofs.lemmas.List.{reverse-append, map-append}
 use Rattle.py_tree.specs.Syntax as x
-use Rattle.py_tree.specs.Syntax.{Statement, Statements}
+use Rattle.py_tree.specs.Syntax.{Statement}
 use Rattle.py_tree.specs.Joined.{statement_of, statements_of}
 use Rattle.py_tree.specs.declared.statement.Stmt.{Stmt}
 use Rattle.py_blocks.specs.Rows.{Row}

@@ -1,14 +1,14 @@
 -- What is read is spelled.
 use Rattle.std.proofs.Common.{◌≡◌, ◌<◌, ℕ, Bool, true, false, List, [], ◌∷◌, ◌++◌, Option, Some, None, refl, sym, subst, eqb-true, ltb-true, if◌then◌else◌, nat_eq, nat_lt}
 use Rattle.py_tree.specs.Syntax as x
-use Rattle.py_tree.specs.Syntax.{Text, Param, Expression, Target, Kind, Statement, Statements, Branches, Clauses}
+use Rattle.py_tree.specs.Syntax.{Text, Expression, Kind, Statement, Statements, Clauses}
 use Rattle.py_tree.specs.Lawful.{Place}
 use Rattle.py_expr.specs.Forms as form
 use Rattle.py_expr.specs.Forms.{Form, Head}
 use Rattle.py_blocks.specs.Rows.{Row}
 use Rattle.py_blocks.specs.Blocks.{Rows, row, Context, Code, ClassFront, ClassRest, StatementAt, BodyAt, ClausesAt, behind, simple_stands, no_statement, a_statement, a_simple, an_if, a_while, a_for, a_try, a_def, a_class, beside, below, no_elif, an_else, an_elif, last_clause, a_clause}
 use Rattle.py_blocks.specs.Machine as owner
-use Rattle.py_blocks.specs.Machine.{Owner, Last, Whole, OpenIf, OpenTry, Block, Frame, State, Placed, onto, branches_onto, clauses_onto, alone, inside, claused, fresh, put, settled, takes_clause, starts, started, continued, after_if, after_try, is_code, class_stands, head_stands, and_then, beside_head, begin, place, placed, above, place_in, place_back, below_head, place_waiting, step, run, close, finish, start}
+use Rattle.py_blocks.specs.Machine.{Owner, Last, Whole, OpenIf, OpenTry, Block, Frame, State, Placed, onto, alone, inside, claused, fresh, put, settled, takes_clause, starts, started, continued, after_if, after_try, is_code, class_stands, head_stands, and_then, beside_head, begin, place, placed, above, place_in, place_back, place_waiting, step, run, close, finish}
 use Rattle.py_blocks.proofs.Remains.{Ends, Handlers, no_more, more, Tail, TailOf, Then, Up, Completes}
 
 abbrev block : ℕ → Context → List Statement → Last → Block

@@ -9,7 +9,7 @@ use Rattle.py_tree.specs.Literals.{fits, maybe_fits, params_fit, target_fits, ki
 use Rattle.py_expr.specs.Forms as form
 use Rattle.py_expr.specs.Literals.{head_fits}
 use Rattle.py_blocks.specs.Fits.{forms_fit}
-use Rattle.py_blocks.specs.Blocks.{Rows, Context, Code, ClassFront, ClassRest, StatementsAt, StatementAt, BodyAt, ElifsAt, ClausesAt, ModuleAt, behind, in_a_loop, in_a_clause, is_simple, is_docstring, simple_stands, no_statement, a_statement, a_simple, an_if, a_while, a_for, a_try, a_def, a_class, beside, below, no_elif, an_else, an_elif, last_clause, a_clause}
+use Rattle.py_blocks.specs.Blocks.{Rows, Context, Code, ClassFront, ClassRest, StatementsAt, StatementAt, BodyAt, ElifsAt, ClausesAt, ModuleAt, behind, in_a_clause, is_simple, is_docstring, simple_stands, no_statement, a_statement, a_simple, an_if, a_while, a_for, a_try, a_def, a_class, beside, below, no_elif, an_else, an_elif, last_clause, a_clause}
 
 -- ---- statements stand where they may
 

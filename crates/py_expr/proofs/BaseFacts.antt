@@ -13,7 +13,6 @@ use Rattle.py_expr.specs.Lines.{Base}
 use Rattle.py_expr.specs.LineEnds.{Anything}
 use Rattle.py_expr.specs.Depth.{maybe_nesting}
 use Rattle.py_expr.specs.Readings.{Same, IsBuilt, IsFound, BaseBehind}
-use Rattle.py_expr.proofs.OneForm.{behind}
 
 none_built : IsBuilt {T = Option Expr} maybe_of maybe_nesting None (Shallow None)
 none_built = (omega arith, refl)
@@ -24,25 +23,11 @@ colon_found s m h =
       only_none : (q : Tokens) (z : Option Expression) → Base (t.colon ∷ m) q z → Same None z m q
       only_none q _ l.no_base = record { thing = refl; rest = refl }
 
-pub no_base_there : (s : Tokens) → ((m : Tokens) → s ≡ t.left_paren ∷ m → ⊥) → ((m : Tokens) → s ≡ t.colon ∷ m → ⊥) → (q : Tokens) (z : Option Expression) → Base s q z → Anything q → ⊥
-no_base_there _ paren colon q _ l.no_base i = colon q refl
-no_base_there _ paren colon q _ l.empty_base i = paren (t.right_paren ∷ t.colon ∷ q) refl
-no_base_there _ paren colon q _ (l.named_base {b = b}) i = paren (token.Name b ∷ t.right_paren ∷ t.colon ∷ q) refl
-no_base_there _ paren colon q _ (l.dotted_base {m = m} {b = b}) i = paren (token.Name m ∷ t.dot ∷ token.Name b ∷ t.right_paren ∷ t.colon ∷ q) refl
-
 pub empty_found : (s inner m : Tokens) → s ≡ t.left_paren ∷ inner → inner ≡ t.right_paren ∷ t.colon ∷ m → IsFound Base Anything maybe_of maybe_nesting s (Shallow None) m
 empty_found s inner m h k =
     subst (λ y. IsFound Base Anything maybe_of maybe_nesting y (Shallow None) m) (sym (h ∙ ap (λ y. t.left_paren ∷ y) k)) (record { thing = None; stands = l.empty_base; only = λ q z d i. only_none q z d; is_built = none_built }) where
       only_none : (q : Tokens) (z : Option Expression) → Base (t.left_paren ∷ t.right_paren ∷ t.colon ∷ m) q z → Same None z m q
       only_none q _ l.empty_base = record { thing = refl; rest = refl }
-
-pub no_empty_base : (s inner : Tokens) → s ≡ t.left_paren ∷ inner → ((n : Text) (m : Tokens) → inner ≡ token.Name n ∷ m → ⊥) → ((m : Tokens) → inner ≡ t.right_paren ∷ t.colon ∷ m → ⊥) → (q : Tokens) (z : Option Expression) → Base s q z → Anything q → ⊥
-no_empty_base s inner h name closed q z d i = at s q z d h where
-  at : (y q : Tokens) (z : Option Expression) → Base y q z → y ≡ t.left_paren ∷ inner → ⊥
-  at _ q _ l.no_base e = cc
-  at _ q _ l.empty_base e = closed q (ap behind (sym e))
-  at _ q _ (l.named_base {b = b}) e = name b (t.right_paren ∷ t.colon ∷ q) (ap behind (sym e))
-  at _ q _ (l.dotted_base {m = m} {b = b}) e = name m (t.dot ∷ token.Name b ∷ t.right_paren ∷ t.colon ∷ q) (ap behind (sym e))
 
 pub named_found : (n : Text) (s m : Tokens) (e : Expr) → s ≡ t.right_paren ∷ t.colon ∷ m → expression_of e ≡ syntax.Name n → IsFound (BaseBehind n) Anything maybe_of maybe_nesting s (Shallow (Some e)) m
 named_found n s m e h made =
@@ -51,10 +36,6 @@ named_found n s m e h made =
       only_named : (q : Tokens) (z : Option Expression) → BaseBehind n (t.right_paren ∷ t.colon ∷ m) q z → Same (Some (syntax.Name n)) z m q
       only_named q _ l.named_base = record { thing = refl; rest = refl }
 
-pub no_named_base : (n : Text) (s : Tokens) → ((m : Tokens) → s ≡ t.dot ∷ m → ⊥) → ((m : Tokens) → s ≡ t.right_paren ∷ t.colon ∷ m → ⊥) → (q : Tokens) (z : Option Expression) → BaseBehind n s q z → Anything q → ⊥
-no_named_base n _ dot closed q _ l.named_base i = closed q refl
-no_named_base n _ dot closed q _ (l.dotted_base {b = b}) i = dot (token.Name b ∷ t.right_paren ∷ t.colon ∷ q) refl
-
 pub dotted_found : (n b : Text) (s more rest m : Tokens) (e : Expr) → s ≡ t.dot ∷ more → more ≡ token.Name b ∷ rest → rest ≡ t.right_paren ∷ t.colon ∷ m → expression_of e ≡ syntax.Attr (syntax.Name n) b
     → IsFound (BaseBehind n) Anything maybe_of maybe_nesting s (Shallow (Some e)) m
 dotted_found n b s more rest m e h k c made =
@@ -62,19 +43,3 @@ dotted_found n b s more rest m e h k c made =
     (record { thing = Some (syntax.Attr (syntax.Name n) b); stands = l.dotted_base; only = λ q z d i. only_dotted q z d; is_built = (omega arith, ap Some made) }) where
       only_dotted : (q : Tokens) (z : Option Expression) → BaseBehind n (t.dot ∷ token.Name b ∷ t.right_paren ∷ t.colon ∷ m) q z → Same (Some (syntax.Attr (syntax.Name n) b)) z m q
       only_dotted q _ l.dotted_base = record { thing = refl; rest = refl }
-
-pub no_member : (n : Text) (s more : Tokens) → s ≡ t.dot ∷ more → ((b : Text) (m : Tokens) → more ≡ token.Name b ∷ m → ⊥) → (q : Tokens) (z : Option Expression) → BaseBehind n s q z → Anything q → ⊥
-no_member n s more h name q z d i = at (t.left_paren ∷ token.Name n ∷ s) q z d (ap (λ y. t.left_paren ∷ token.Name n ∷ y) h) where
-  at : (y q : Tokens) (z : Option Expression) → Base y q z → y ≡ t.left_paren ∷ token.Name n ∷ t.dot ∷ more → ⊥
-  at _ q _ l.no_base e = cc
-  at _ q _ l.empty_base e = cc
-  at _ q _ l.named_base e = cc
-  at _ q _ (l.dotted_base {m = m} {b = b}) e = name b (t.right_paren ∷ t.colon ∷ q) (ap (λ y. behind (behind (behind y))) (sym e))
-
-pub no_dotted_base : (n b : Text) (s more rest : Tokens) → s ≡ t.dot ∷ more → more ≡ token.Name b ∷ rest → ((m : Tokens) → rest ≡ t.right_paren ∷ t.colon ∷ m → ⊥) → (q : Tokens) (z : Option Expression) → BaseBehind n s q z → Anything q → ⊥
-no_dotted_base n b s more rest h k closed q z d i = at (t.left_paren ∷ token.Name n ∷ s) q z d (ap (λ y. t.left_paren ∷ token.Name n ∷ y) (h ∙ ap (λ y. t.dot ∷ y) k)) where
-  at : (y q : Tokens) (z : Option Expression) → Base y q z → y ≡ t.left_paren ∷ token.Name n ∷ t.dot ∷ token.Name b ∷ rest → ⊥
-  at _ q _ l.no_base e = cc
-  at _ q _ l.empty_base e = cc
-  at _ q _ l.named_base e = cc
-  at _ q _ (l.dotted_base {m = m} {b = c}) e = closed q (ap (λ y. behind (behind (behind (behind y)))) (sym e))

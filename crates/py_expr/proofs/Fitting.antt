@@ -9,7 +9,7 @@ use Rattle.py_lexer.specs.Literals.{tokens_fit}
 use Rattle.py_phrases.specs.Grammar.{Tokens}
 use Rattle.py_phrases.proofs.Fitting.{Fit, phrase_fits, names_fit, place_fits, assigned_fits}
 use Rattle.py_expr.specs.Lines as l
-use Rattle.py_expr.specs.Lines.{Augmented, Annotation, Default, Parameter, Parameters, Result, Base, HeadAt, Value, Simple, Line}
+use Rattle.py_expr.specs.Lines.{Augmented, Annotation, Default, Parameters, Result, Base, HeadAt, Value, Simple, Line}
 use Rattle.py_expr.specs.Literals.{head_fits, form_fits}
 use Rattle.py_expr.specs.Forms.{Form, Head}
 

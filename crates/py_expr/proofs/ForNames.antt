@@ -151,7 +151,3 @@ no_bare s m names comma bare read none q z d h =
     let ended : x.last ≡ comma = same_comma both in
     let rests : m ≡ t.in_ ∷ q = sym (same_rest both) in
     none q z (sym (ap (λ y. target_from y x.names) ended ∙ ap (target_from comma) named) ∙ x.is_target) rests
-
--- with the parenthesis
-pub behind_paren : (s m r : Tokens) (b : _) → s ≡ t.left_paren ∷ m → IsFound InParentheses Anything target_of target_nesting m b r → IsFound BeforeIn Anything target_of target_nesting s b r
-behind_paren s m r b is f = subst (λ z. IsFound BeforeIn Anything target_of target_nesting z b r) (sym is) (record { thing = f.thing; stands = f.stands; only = f.only; is_built = f.is_built })

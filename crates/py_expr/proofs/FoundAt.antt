@@ -101,12 +101,6 @@ default_found s m r b h f =
       only_default q _ l.no_default i = absurd i
       only_default q _ (l.a_default {e = e} d) i = let x = f.only q e d (parameter_ends q i) in record { thing = ap Some x.thing; rest = x.rest }
 
-pub not_default : (s m : Tokens) → s ≡ t.equal ∷ m → ((q : Tokens) (z : Expression) → Spells E m q z → IsEnd E q → ⊥) → (q : Tokens) (z : Option Expression) → Default s q z → EndsParameter q → ⊥
-not_default s m h none q z d i = only_default q z (subst (λ y. Default y q z) h d) i where
-  only_default : (q : Tokens) (z : Option Expression) → Default (t.equal ∷ m) q z → EndsParameter q → ⊥
-  only_default q _ l.no_default i = i
-  only_default q _ (l.a_default {e = e} d) i = none q e d (parameter_ends q i)
-
 pub no_default_found : (s : Tokens) → ((m : Tokens) → s ≡ t.equal ∷ m → ⊥) → IsFound Default EndsParameter maybe_of maybe_nesting s (Shallow None) s
 no_default_found s h = record { thing = None; stands = l.no_default; only = λ q z d i. only_none s q z h d; is_built = none_built } where
   only_none : (s q : Tokens) (z : Option Expression) → ((m : Tokens) → s ≡ t.equal ∷ m → ⊥) → Default s q z → Same None z s q
@@ -129,11 +123,6 @@ no_result_found s m h =
     subst (λ y. IsFound Result Anything maybe_of maybe_nesting y (Shallow None) m) (sym h) (record { thing = None; stands = l.no_result; only = λ q z d i. only_none q z d; is_built = none_built }) where
       only_none : (q : Tokens) (z : Option Expression) → Result (t.colon ∷ m) q z → Same None z m q
       only_none q _ l.no_result = record { thing = refl; rest = refl }
-
-pub not_result : (s m : Tokens) → s ≡ t.arrow ∷ m → ((q : Tokens) (z : Expression) → BeforeColon m q z → Anything q → ⊥) → (q : Tokens) (z : Option Expression) → Result s q z → Anything q → ⊥
-not_result s m h none q z d i = only_result q z (subst (λ y. Result y q z) h d) where
-  only_result : (q : Tokens) (z : Option Expression) → Result (t.arrow ∷ m) q z → ⊥
-  only_result q _ (l.a_result {e = e} d) = none q e d tt
 
 pub no_result : (s : Tokens) → ((m : Tokens) → s ≡ t.colon ∷ m → ⊥) → ((m : Tokens) → s ≡ t.arrow ∷ m → ⊥) → (q : Tokens) (z : Option Expression) → Result s q z → Anything q → ⊥
 no_result _ h k q _ l.no_result i = h q refl

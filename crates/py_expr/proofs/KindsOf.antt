@@ -33,9 +33,6 @@ import_is is = ap kind_of (sym (variant.rolls-Import is)) ∙ fold-roll-StmtKind
 pub from_is : (n : Text) (is : List Import) → kind_of (code.From n is) ≡ x.From n is
 from_is n is = ap kind_of (sym (variant.rolls-From n is)) ∙ fold-roll-StmtKind Kind x.Branch x.ClassDef x.Clause x.Function Statement kind_step branch_step class_step clause_step function_step statement_step (S.From n is)
 
-pub eval_is : (e : Expr) → kind_of (code.Eval e) ≡ x.Eval (expression_of e)
-eval_is e = ap kind_of (sym (variant.rolls-Eval e)) ∙ fold-roll-StmtKind Kind x.Branch x.ClassDef x.Clause x.Function Statement kind_step branch_step class_step clause_step function_step statement_step (S.Eval e)
-
 pub assign_is : (t : Target) (e : Expr) → kind_of (code.Assign t e) ≡ x.Assign (target_of t) (expression_of e)
 assign_is t e = ap kind_of (sym (variant.rolls-Assign t e)) ∙ fold-roll-StmtKind Kind x.Branch x.ClassDef x.Clause x.Function Statement kind_step branch_step class_step clause_step function_step statement_step (S.Assign t e)
 

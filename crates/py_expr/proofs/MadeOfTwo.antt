@@ -1,8 +1,7 @@
 -- Statements built of two parts.
-use Rattle.std.proofs.Common.{◌≡◌, ◌≤◌, ℕ, max, Option, ap, subst, ◌∙◌, arith}
+use Rattle.std.proofs.Common.{◌≡◌, Option, ap, subst, ◌∙◌}
 use Rattle.py_tree.specs.Syntax as x
-use Rattle.py_tree.specs.Syntax.{Expression, Target, Kind}
-use Rattle.py_tree.specs.Nesting.{nesting}
+use Rattle.py_tree.specs.Syntax.{Expression, Target}
 use Rattle.py_tree.specs.Joined.{target_of, kind_of}
 use Rattle.py_tree.specs.declared.expression.Expr.{Expr}
 use Rattle.py_tree.specs.declared.expression.Target as tree
@@ -13,7 +12,6 @@ use Rattle.py_phrases.specs.declared.phrase.Built.TheVariants.{Shallow, TooDeep}
 use Rattle.py_expr.specs.Readings.{IsBuilt}
 use Rattle.py_expr.specs.Statements.{parts_of, parts_nesting, MakesOfBoth, Annotates, annotation_of, annotated_of, annotated_nesting}
 use Rattle.py_expr.proofs.KindsOf.{assign_is, augment_is}
-use Rattle.py_phrases.specs.Targets.{target_nesting}
 
 pub assigned : (parts : Built (tree.Target × Expr)) (t : tree.Target) (v : Expr) → parts ≡ Shallow (t, v) → MakesOfBoth x.Assign parts (Shallow (code.Assign t v))
 assigned parts t v is g e h =

@@ -10,7 +10,7 @@ use Rattle.py_lexer.specs.declared.token.Keyword.TheVariants as word
 use Rattle.py_lexer.specs.declared.token.Mark.TheVariants as mark
 use Rattle.py_phrases.specs.Tokens as t
 use Rattle.py_phrases.specs.Grammar as g
-use Rattle.py_phrases.specs.Grammar.{Tokens, Level, P, E, L, Spells}
+use Rattle.py_phrases.specs.Grammar.{Tokens, Level, E, L, Spells}
 use Rattle.py_phrases.specs.Ends.{IsEnd}
 use Rattle.py_expr.specs.Lines as l
 use Rattle.py_expr.specs.Lines.{Augmented, Annotation, Default, Parameter, Parameters, Result, Base, HeadAt, Item, ImportItems, Taken, Value, Simple, Line}

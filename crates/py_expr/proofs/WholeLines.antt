@@ -1,5 +1,5 @@
 -- Lines: a head, a head with a statement behind it, or a statement.
-use Rattle.std.proofs.Common.{◌≡◌, max, [], Option, Some, None, Result, Ok, Err, IfOk, refl, sym, ap, subst}
+use Rattle.std.proofs.Common.{◌≡◌, max, [], Option, Some, None, Result, Ok, Err, IfOk, sym, ap, subst}
 use Rattle.std.specs.declared.alloc.AllocError.{AllocError}
 use Rattle.py_tree.specs.Syntax.{Kind}
 use Rattle.py_tree.specs.Joined.{kind_of}

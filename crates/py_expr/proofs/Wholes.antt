@@ -7,14 +7,14 @@ use Rattle.py_tree.specs.declared.expression.Expr.{Expr}
 use Rattle.py_phrases.specs.declared.phrase.Built.{Built}
 use Rattle.py_phrases.specs.declared.phrase.Built.TheVariants.{Shallow, TooDeep}
 use Rattle.py_phrases.specs.Tokens as t
-use Rattle.py_phrases.specs.Grammar.{Tokens, Level, Spells, E}
+use Rattle.py_phrases.specs.Grammar.{Tokens, Spells, E}
 use Rattle.py_phrases.specs.Ends.{IsEnd}
 use Rattle.py_expr.specs.Lines as l
 use Rattle.py_expr.specs.Lines.{Value}
 use Rattle.py_expr.specs.Depth.{maybe_nesting}
 use Rattle.py_expr.specs.Readings.{IsBuilt, IsFound, built_on, both_built}
 use Rattle.py_expr.specs.Statements as w
-use Rattle.py_expr.specs.Statements.{IsWhole, WholeAt, AllOfList, AllOfExpression, Annotated, annotation_of, annotation_nesting, IsLast}
+use Rattle.py_expr.specs.Statements.{IsWhole, WholeAt, AllOfList, Annotated, annotation_of, annotation_nesting, IsLast}
 
 -- under another name
 pub whole_under : {T Y : Type 0} {Stands : Tokens → Y → Type 0} {view : T → Y} {depth : Y → ℕ} {s : Tokens} {b b' : Built T} → b' ≡ b → IsWhole Stands view depth s b → IsWhole Stands view depth s b'
@@ -28,11 +28,6 @@ none_whole Stands view depth s is h = subst (WholeAt Stands view depth s) is h
 
 -- ---- a phrase that is all
 
-pub phrase_whole : (k : Level) → IsEnd k [] → (s r : Tokens) (b : Built Expr) (o : Option (Built Expr)) → IsFound (Spells k) (IsEnd k) expression_of nesting s b r → IsLast b r o
-    → WholeAt (λ s e. Spells k s [] e) expression_of nesting s o
-phrase_whole k ends s r b None f h = λ y d. h (f.only [] y d ends).rest
-phrase_whole k ends s r b (Some last) f h = whole_under h.0 (record { thing = f.thing; stands = subst (λ z. Spells k s z f.thing) h.1 f.stands; is_built = f.is_built })
-
 -- ---- values
 
 some_is : (e : Expression) (b : Built Expr) → IsBuilt expression_of nesting e b → IsBuilt maybe_of maybe_nesting (Some e) (built_on Some b)
@@ -42,11 +37,6 @@ some_is e TooDeep h = h
 pub value_there : (s r : Tokens) (b : Built Expr) (v : Built (Option Expr)) → s ≡ t.equal ∷ r → v ≡ built_on Some b → IsWhole AllOfList expression_of nesting r b → IsWhole Value maybe_of maybe_nesting s v
 value_there s r b v h e f =
     whole_under e (record { thing = Some f.thing; stands = subst (λ z. Value z (Some f.thing)) (sym h) (l.a_value f.stands); is_built = some_is f.thing b f.is_built })
-
-pub no_value_there : (s r : Tokens) → s ≡ t.equal ∷ r → ((e : Expression) → AllOfList r e → ⊥) → (v : Option Expression) → Value s v → ⊥
-no_value_there s r h none v d = at v (subst (λ z. Value z v) h d) where
-  at : (v : Option Expression) → Value (t.equal ∷ r) v → ⊥
-  at _ (l.a_value {e = e} d) = none e d
 
 pub value_absent : (s : Tokens) (o : Option (Built (Option Expr))) → ((r : Tokens) → s ≡ t.equal ∷ r → ⊥) → IsLast (Shallow None) s o → WholeAt Value maybe_of maybe_nesting s o
 value_absent s None h none = λ v d. at s v d h none where

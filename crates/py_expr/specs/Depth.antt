@@ -1,7 +1,7 @@
 -- The nesting of a form: that of the deepest expression in it. A target isn't an expression, its parts are.
 use Rattle.std.specs.Prelude.{ℕ, max, List, [], ◌∷◌, Option, Some, None}
 use Rattle.py_tree.specs.Syntax as x
-use Rattle.py_tree.specs.Syntax.{Expression, Param, Target, Kind}
+use Rattle.py_tree.specs.Syntax.{Expression, Param, Kind}
 use Rattle.py_tree.specs.Nesting.{nesting}
 use Rattle.py_expr.specs.Forms as form
 use Rattle.py_expr.specs.Forms.{Form, Head}

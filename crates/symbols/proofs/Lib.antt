@@ -8,4 +8,4 @@ pub mod Trees
 pub mod Statics
 pub mod Arguments
 pub mod OneBinding
-pub mod ClassPlaces
+pub mod Places

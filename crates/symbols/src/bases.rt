@@ -1,14 +1,13 @@
 ghost use Rattle.std.specs.Prelude.{◌≡◌, IfOk};
 ghost use Rattle.std.specs.Option.{option_copied};
-ghost use Rattle.std.specs.List.{find};
-ghost use Rattle.std.specs.Str.{bytes_eq};
 ghost use Rattle.py_tree.specs.Joined.{expression_of, maybe_of};
 ghost use Rattle.symbols.specs.Classes as spec;
 ghost use Rattle.symbols.specs.Classes.{exception_kind, expression_base, member_base, named_base, object_or_bad, outer_kind};
 
 use crate::class::{Base, ClassKind};
 use crate::class_table::ClassTable;
-use crate::outer::{ModuleClass, Outer, OuterBinding, OuterKind};
+use crate::imported::Imported;
+use crate::outer::{ModuleClass, OuterKind};
 use crate::words::{exception_of, is_same, is_word};
 use lists::Items;
 use py_tree::expression::{Expr, Texts};
@@ -20,7 +19,7 @@ use std::alloc::{AllocError, Global};
 /// What the base of a class is that stands behind these.
 pub(crate) fn base_of(
     alloc: Global,
-    outer: &Outer,
+    outer: &Imported<'_>,
     earlier: &ClassTable<'_>,
     base: &Option<Expr>,
 ) -> Result<Base, AllocError>
@@ -34,7 +33,7 @@ pub(crate) fn base_of(
 
 fn expression_base(
     alloc: Global,
-    outer: &Outer,
+    outer: &Imported<'_>,
     earlier: &ClassTable<'_>,
     e: &Expr,
 ) -> Result<Base, AllocError>
@@ -50,7 +49,7 @@ fn expression_base(
 /// A class that stands earlier, an imported class, an exception class or `object`.
 fn named_base(
     alloc: Global,
-    outer: &Outer,
+    outer: &Imported<'_>,
     earlier: &ClassTable<'_>,
     name: &Text,
 ) -> Result<Base, AllocError>
@@ -64,7 +63,7 @@ fn named_base(
 
 /// A class that stands earlier, or an imported class.
 fn known_class<'a>(
-    outer: &'a Outer,
+    outer: &'a Imported<'_>,
     earlier: &'a ClassTable<'_>,
     name: &Text,
 ) -> Option<&'a ClassKind>
@@ -97,7 +96,12 @@ fn object_or_bad(name: &Text) -> Base
 }
 
 /// A class of an imported module.
-fn member_base(alloc: Global, outer: &Outer, from: &Expr, name: &Text) -> Result<Base, AllocError>
+fn member_base(
+    alloc: Global,
+    outer: &Imported<'_>,
+    from: &Expr,
+    name: &Text,
+) -> Result<Base, AllocError>
     ensures { IfOk result (λ found. found ≡ member_base outer.now (expression_of from.now) name.now) }
 {
     match from {
@@ -106,7 +110,12 @@ fn member_base(alloc: Global, outer: &Outer, from: &Expr, name: &Text) -> Result
     }
 }
 
-fn module_base(alloc: Global, outer: &Outer, from: &Text, name: &Text) -> Result<Base, AllocError>
+fn module_base(
+    alloc: Global,
+    outer: &Imported<'_>,
+    from: &Text,
+    name: &Text,
+) -> Result<Base, AllocError>
     ensures { IfOk result (λ found. found ≡ spec.module_base outer.now from.now name.now) }
 {
     match class_of_module(outer, from, name) {
@@ -115,10 +124,10 @@ fn module_base(alloc: Global, outer: &Outer, from: &Text, name: &Text) -> Result
     }
 }
 
-fn class_of_module<'a>(outer: &'a Outer, from: &Text, name: &Text) -> Option<&'a ClassKind>
+fn class_of_module<'a>(outer: &'a Imported<'_>, from: &Text, name: &Text) -> Option<&'a ClassKind>
     ensures { option_copied result ≡ spec.class_of_module (spec.module_classes (outer_kind outer.now from.now)) name.now }
 {
-    match outer_binding(outer.bindings.as_slice(), from) {
+    match outer.get(from) {
         Some(binding) => class_of_kind(&binding.kind, name),
         None => None,
     }
@@ -144,10 +153,10 @@ fn class_among<'a>(classes: &'a [ModuleClass], name: &Text) -> Option<&'a ClassK
     None
 }
 
-fn outer_class<'a>(outer: &'a Outer, name: &Text) -> Option<&'a ClassKind>
+fn outer_class<'a>(outer: &'a Imported<'_>, name: &Text) -> Option<&'a ClassKind>
     ensures { option_copied result ≡ spec.class_kind (outer_kind outer.now name.now) }
 {
-    match outer_binding(outer.bindings.as_slice(), name) {
+    match outer.get(name) {
         Some(binding) => kind_class(&binding.kind),
         None => None,
     }
@@ -160,18 +169,6 @@ fn kind_class(kind: &OuterKind) -> Option<&ClassKind>
         OuterKind::Class(class) => Some(class),
         _ => None,
     }
-}
-
-/// The first of these bindings of that name.
-fn outer_binding<'a>(bindings: &'a [OuterBinding], name: &Text) -> Option<&'a OuterBinding>
-    ensures { option_copied result ≡ find (λ b. bytes_eq name.now b.name) bindings.now }
-{
-    for binding in bindings {
-        if is_same(name, &binding.name) {
-            return Some(binding);
-        }
-    }
-    None
 }
 
 /// An exception class has the slot `args`.

@@ -20,13 +20,13 @@ pub(crate) struct ClassTable<'a> {
 impl<'a> Model for ClassTable<'a> {
     ghost use Rattle.std.specs.Prelude.{List};
     ghost use Rattle.symbols.specs.declared.class.Found.{Found as Known};
-    ghost use Rattle.symbols.specs.ClassPlaces.{ArePlaces};
+    ghost use Rattle.symbols.specs.Places.{ArePlaces, class_name};
 
     ghost Value = { List Known };
 
     ghost view = { λ table. table.all };
 
-    ghost invariant = { λ table. ArePlaces table.all table.places };
+    ghost invariant = { λ table. ArePlaces class_name table.all table.places };
 }
 
 impl<'a> ClassTable<'a> {

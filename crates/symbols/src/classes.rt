@@ -10,6 +10,7 @@ ghost use Rattle.symbols.specs.Views.{seen};
 use crate::bases::base_of;
 use crate::class::{Base, Class, ClassKind, Found};
 use crate::class_table::ClassTable;
+use crate::imported::Imported;
 use crate::names::Names;
 use crate::outer::Outer;
 use crate::scope::scope_of;
@@ -29,6 +30,17 @@ pub(crate) fn classes_of(
 ) -> Result<Items<Found>, AllocError>
     ensures { IfOk result (λ all. all ≡ classes_behind outer.now [] (seen scope.now)) }
 {
+    let imported = Imported::new(alloc, outer)?;
+    classes_in(alloc, &imported, scope)
+}
+
+fn classes_in(
+    alloc: Global,
+    outer: &Imported<'_>,
+    scope: &[&Stmt],
+) -> Result<Items<Found>, AllocError>
+    ensures { IfOk result (λ all. all ≡ classes_behind outer.now [] (seen scope.now)) }
+{
     let mut all = ClassTable::new(alloc);
     for statement in scope {
         if let StmtKind::Class(class) = &statement.kind {
@@ -42,7 +54,7 @@ pub(crate) fn classes_of(
 /// The class that stands behind these.
 fn found_class(
     alloc: Global,
-    outer: &Outer,
+    outer: &Imported<'_>,
     earlier: &ClassTable<'_>,
     line: u32,
     class: &ClassDef,
@@ -51,7 +63,7 @@ fn found_class(
 {
     let number = u32::try_from(earlier.len()).map_err(|_| AllocError)?;
     let id = ClassId::User {
-        home: outer.number,
+        home: outer.number(),
         number,
     };
     let base = base_of(alloc, outer, earlier, &class.base)?;

@@ -12,6 +12,7 @@ mod classes;
 mod context;
 mod first_fault;
 mod functions;
+mod imported;
 mod imports;
 mod kinds;
 mod module_uses;

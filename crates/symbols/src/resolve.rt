@@ -29,7 +29,7 @@ use py_tree::statement::{Function, Module, Stmt};
 use std::alloc::{AllocError, Global};
 
 /// The names of a module (Python reference: naming and binding). In time linear in its text, but for the slots and methods of classes,
-/// which are listed with those of their bases, and for the search of a base among what is imported.
+/// which are listed with those of their bases, and for the search of a base among the classes of an imported module.
 ///
 /// # Errors
 ///

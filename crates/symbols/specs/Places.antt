@@ -1,0 +1,22 @@
+-- No definition of the language: where the first of the things with a name stands among others, for each name.
+use Rattle.std.specs.Prelude.{◌≡◌, ◌<◌, ℕ, Bool, List, length, slice_get, Option, Some, None}
+use Rattle.std.specs.List.{find}
+use Rattle.std.specs.Str.{bytes_eq}
+use Rattle.py_tree.specs.Syntax.{Text}
+use Rattle.symbols.specs.declared.class.Found.{Found}
+use Rattle.symbols.specs.declared.name_map.NameMap.{NameMap}
+use Rattle.symbols.specs.declared.outer.OuterBinding.{OuterBinding}
+use Rattle.symbols.specs.Names.{found}
+
+abbrev pub IsPlace : {X : Type 0} → (X → Bool) → List X → Option ℕ → Type 0
+IsPlace test xs None = find test xs ≡ None
+IsPlace test xs (Some place) = (place < length xs) × (find test xs ≡ slice_get xs place)
+
+abbrev pub ArePlaces : {X : Type 0} → (X → Text) → List X → NameMap ℕ → Type 0
+ArePlaces name_of xs places = (name : Text) → IsPlace (λ x. bytes_eq name (name_of x)) xs (found places name)
+
+abbrev pub class_name : Found → Text
+class_name c = c.class.name
+
+abbrev pub outer_name : OuterBinding → Text
+outer_name b = b.name
