@@ -7,3 +7,5 @@ pub mod PartFaults
 pub mod Trees
 pub mod Statics
 pub mod Arguments
+pub mod OneBinding
+pub mod ClassPlaces

@@ -17,3 +17,4 @@ pub mod StaticUses
 pub mod ModuleKinds
 pub mod Answers
 pub mod Uses
+pub mod ClassPlaces

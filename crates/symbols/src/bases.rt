@@ -4,9 +4,10 @@ ghost use Rattle.std.specs.List.{find};
 ghost use Rattle.std.specs.Str.{bytes_eq};
 ghost use Rattle.py_tree.specs.Joined.{expression_of, maybe_of};
 ghost use Rattle.symbols.specs.Classes as spec;
-ghost use Rattle.symbols.specs.Classes.{earlier_class, exception_kind, expression_base, member_base, named_base, object_or_bad, outer_kind};
+ghost use Rattle.symbols.specs.Classes.{exception_kind, expression_base, member_base, named_base, object_or_bad, outer_kind};
 
-use crate::class::{Base, ClassKind, Found};
+use crate::class::{Base, ClassKind};
+use crate::class_table::ClassTable;
 use crate::outer::{ModuleClass, Outer, OuterBinding, OuterKind};
 use crate::words::{exception_of, is_same, is_word};
 use lists::Items;
@@ -20,7 +21,7 @@ use std::alloc::{AllocError, Global};
 pub(crate) fn base_of(
     alloc: Global,
     outer: &Outer,
-    earlier: &[Found],
+    earlier: &ClassTable<'_>,
     base: &Option<Expr>,
 ) -> Result<Base, AllocError>
     ensures { IfOk result (λ found. found ≡ spec.base_of outer.now earlier.now (maybe_of base.now)) }
@@ -34,7 +35,7 @@ pub(crate) fn base_of(
 fn expression_base(
     alloc: Global,
     outer: &Outer,
-    earlier: &[Found],
+    earlier: &ClassTable<'_>,
     e: &Expr,
 ) -> Result<Base, AllocError>
     ensures { IfOk result (λ found. found ≡ expression_base outer.now earlier.now (expression_of e.now)) }
@@ -50,7 +51,7 @@ fn expression_base(
 fn named_base(
     alloc: Global,
     outer: &Outer,
-    earlier: &[Found],
+    earlier: &ClassTable<'_>,
     name: &Text,
 ) -> Result<Base, AllocError>
     ensures { IfOk result (λ found. found ≡ named_base outer.now earlier.now name.now) }
@@ -62,10 +63,14 @@ fn named_base(
 }
 
 /// A class that stands earlier, or an imported class.
-fn known_class<'a>(outer: &'a Outer, earlier: &'a [Found], name: &Text) -> Option<&'a ClassKind>
+fn known_class<'a>(
+    outer: &'a Outer,
+    earlier: &'a ClassTable<'_>,
+    name: &Text,
+) -> Option<&'a ClassKind>
     ensures { option_copied result ≡ spec.known_class outer.now earlier.now name.now }
 {
-    match earlier_class(earlier, name) {
+    match earlier.get(name) {
         Some(kind) => Some(kind),
         None => outer_class(outer, name),
     }
@@ -164,17 +169,6 @@ fn outer_binding<'a>(bindings: &'a [OuterBinding], name: &Text) -> Option<&'a Ou
     for binding in bindings {
         if is_same(name, &binding.name) {
             return Some(binding);
-        }
-    }
-    None
-}
-
-fn earlier_class<'a>(earlier: &'a [Found], name: &Text) -> Option<&'a ClassKind>
-    ensures { option_copied result ≡ earlier_class earlier.now name.now }
-{
-    for found in earlier {
-        if is_same(name, &found.class.name) {
-            return Some(&found.class.kind);
         }
     }
     None

@@ -9,6 +9,7 @@ ghost use Rattle.symbols.specs.Views.{seen};
 
 use crate::bases::base_of;
 use crate::class::{Base, Class, ClassKind, Found};
+use crate::class_table::ClassTable;
 use crate::names::Names;
 use crate::outer::Outer;
 use crate::scope::scope_of;
@@ -28,21 +29,21 @@ pub(crate) fn classes_of(
 ) -> Result<Items<Found>, AllocError>
     ensures { IfOk result (λ all. all ≡ classes_behind outer.now [] (seen scope.now)) }
 {
-    let mut all = Items::new(alloc);
+    let mut all = ClassTable::new(alloc);
     for statement in scope {
         if let StmtKind::Class(class) = &statement.kind {
-            let found = found_class(alloc, outer, all.as_slice(), statement.line, class)?;
-            all.push(found)?;
+            let found = found_class(alloc, outer, &all, statement.line, class)?;
+            all = all.with(&class.name, found)?;
         }
     }
-    Ok(all)
+    Ok(all.into_items())
 }
 
 /// The class that stands behind these.
 fn found_class(
     alloc: Global,
     outer: &Outer,
-    earlier: &[Found],
+    earlier: &ClassTable<'_>,
     line: u32,
     class: &ClassDef,
 ) -> Result<Found, AllocError>

@@ -7,6 +7,7 @@ mod bindings;
 mod bound_names;
 pub mod class;
 mod class_faults;
+mod class_table;
 mod classes;
 mod context;
 mod first_fault;

@@ -8,6 +8,7 @@ ghost use Rattle.symbols.specs.Classes.{classes_in};
 ghost use Rattle.symbols.specs.Functions.{locals_in};
 ghost use Rattle.symbols.specs.Located.{located};
 ghost use Rattle.symbols.specs.Parts.{IsPartsOf};
+ghost use Rattle.symbols.specs.Uses.{EachUseIsBound};
 
 use crate::bases::copy_texts;
 use crate::binding::Binding;
@@ -28,7 +29,7 @@ use py_tree::statement::{Function, Module, Stmt};
 use std::alloc::{AllocError, Global};
 
 /// The names of a module (Python reference: naming and binding). In time linear in its text, but for the slots and methods of classes,
-/// which are listed with those of their bases, and for the search of a base among the classes.
+/// which are listed with those of their bases, and for the search of a base among what is imported.
 ///
 /// # Errors
 ///
@@ -54,6 +55,11 @@ pub fn resolve(alloc: Global, tree: &Module, outer: &Outer) -> Result<Resolved, 
     };
     resolve_parts(alloc, tree, outer, &parts)
 }
+
+/// Every use of a name has exactly one binding.
+pub fn one_binding()
+    ensures { EachUseIsBound }
+{}
 
 fn resolve_parts(
     alloc: Global,
