@@ -2,3 +2,8 @@ pub mod Sources
 pub mod Markers
 pub mod Preparing
 pub mod Views
+pub mod Decisions
+pub mod Imports
+pub mod FirstOnes
+pub mod Outers
+pub mod Bodies

@@ -3,16 +3,16 @@
 
 mod bases;
 pub mod binding;
-mod bindings;
+pub mod bindings;
 mod bound_names;
 pub mod class;
 mod class_faults;
 mod class_table;
 mod classes;
 mod context;
-mod first_fault;
+pub mod first_fault;
 mod functions;
-mod imports;
+pub mod imports;
 mod kinds;
 mod module_uses;
 mod name_map;
@@ -28,4 +28,4 @@ mod special_lines;
 mod special_parts;
 pub mod static_use;
 mod uses;
-mod words;
+pub mod words;
