@@ -12,7 +12,7 @@ use Rattle.module_load.specs.FirstOnes.{earlier}
 
 -- ---- one of two lists
 
-in_both : (f : Fault) (fs gs : List Fault) → In f (fs ++ gs) → In f fs ⊎ In f gs
+pub in_both : (f : Fault) (fs gs : List Fault) → In f (fs ++ gs) → In f fs ⊎ In f gs
 in_both f [] gs h = inr h
 in_both f (x ∷ fs) gs h = elim h [ inl e ↦ inl (inl e) | inr later ↦ elim (in_both f fs gs later) [ inl i ↦ inl (inr i) | inr i ↦ inr i ] ]
 

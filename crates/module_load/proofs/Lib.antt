@@ -5,3 +5,7 @@ pub mod Phases
 pub mod Examples
 pub mod FirstOnes
 pub mod Statements
+pub mod Held
+pub mod Named
+pub mod OneDecision
+pub mod Decided

@@ -7,3 +7,4 @@ pub mod Imports
 pub mod FirstOnes
 pub mod Outers
 pub mod Bodies
+pub mod RightDecisions

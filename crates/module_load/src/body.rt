@@ -1,4 +1,5 @@
-ghost use Rattle.std.specs.Prelude.{◌≡◌, Some, map};
+ghost use Rattle.std.specs.Prelude.{◌≡◌, Some, map, slice_get};
+ghost use Rattle.std.specs.Option.{option_copied};
 ghost use Rattle.std.specs.List.{find};
 ghost use Rattle.py_tree.specs.Joined.{kind_of, statement_of, statements_of};
 ghost use Rattle.py_tree.specs.declared.code.Code.TheVariants as code;
@@ -46,10 +47,17 @@ fn is_built(kind: &StmtKind) -> bool
 pub(crate) fn spent(body: &[Stmt]) -> Option<Fault>
     ensures { result ≡ rule.spent (statements_of body.now) }
 {
-    match body.get(IMPORT_FUEL) {
+    match statement_at(body, IMPORT_FUEL) {
         Some(statement) => Some(fault_at(statement, Code::FuelSpent)),
         None => None,
     }
+}
+
+/// The statement at that place, from 0.
+fn statement_at(body: &[Stmt], place: usize) -> Option<&Stmt>
+    ensures { option_copied result ≡ slice_get body.now place }
+{
+    body.get(place)
 }
 
 fn fault_at(statement: &Stmt, code: Code) -> Fault

@@ -2,6 +2,7 @@
 #![tactic(auto)]
 
 mod body;
+pub mod deciding;
 mod import_faults;
 pub mod known;
 pub mod laws;

@@ -16,7 +16,7 @@ pub mod imports;
 mod kinds;
 mod module_uses;
 mod name_map;
-mod names;
+pub mod names;
 pub mod outer;
 mod parts;
 mod repeats;
