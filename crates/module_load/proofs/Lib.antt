@@ -5,3 +5,9 @@ pub mod Phases
 pub mod Examples
 pub mod Folders
 pub mod FolderExamples
+pub mod FirstOnes
+pub mod Statements
+pub mod Held
+pub mod Named
+pub mod OneDecision
+pub mod Decided
