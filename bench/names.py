@@ -6,7 +6,7 @@ import os, re, shutil, subprocess, sys, tempfile
 
 TOP = os.path.dirname(os.path.dirname(os.path.abspath(__file__)))
 BELOW = ["lists", "py_values", "py_tree", "py_lexer", "py_phrases", "py_expr", "py_blocks", "symbols", "name_rows"]
-PROGRAM = r"""//! Reads modules on standard input, each behind a line with its size, and prints the least microseconds that its names took.
+PROGRAM = r"""//! Reads modules on standard input, with `$` between them, and prints the least microseconds that the names of each took.
 #![tactic(auto)]
 
 use name_rows::reading::read;
