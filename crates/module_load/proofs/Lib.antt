@@ -3,3 +3,11 @@ pub mod LineForms
 pub mod OneState
 pub mod Phases
 pub mod Examples
+pub mod Folders
+pub mod FolderExamples
+pub mod FirstOnes
+pub mod Statements
+pub mod Held
+pub mod Named
+pub mod OneDecision
+pub mod Decided

@@ -1,4 +1,11 @@
 pub mod Sources
 pub mod Markers
 pub mod Preparing
+pub mod Folders
+pub mod Decisions
+pub mod Imports
+pub mod Outers
+pub mod Bodies
+pub mod RightDecisions
 pub mod Views
+pub mod FirstOnes

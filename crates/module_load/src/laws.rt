@@ -1,5 +1,6 @@
 ghost use Rattle.module_load.specs.Markers.{OnePlace};
 ghost use Rattle.module_load.specs.Preparing.{AtMostOneState};
+ghost use Rattle.module_load.specs.RightDecisions.{OneDecision};
 
 /// Bytes prepare to at most one state.
 pub fn one_state()
@@ -9,4 +10,9 @@ pub fn one_state()
 /// A module is marked by the test exactly where a marker stands in its place.
 pub fn one_place()
     ensures { OnePlace }
+{}
+
+/// One decision of a module is right.
+pub fn one_decision()
+    ensures { OneDecision }
 {}

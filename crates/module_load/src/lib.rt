@@ -1,7 +1,15 @@
-//! From the files of a folder to the verdicts of its modules. So far: what a module's file is by itself.
+//! From the files of a folder to the verdicts of its modules: what each file is by itself, which modules import which, and what is decided
+//! of a module from what is decided of those that it imports.
 #![tactic(auto)]
 
+mod body;
+pub mod deciding;
+pub mod folder;
+mod import_faults;
+pub mod known;
 pub mod laws;
+mod outer;
 pub mod preparing;
 pub mod source;
 mod top_part;
+pub mod verdict;

@@ -22,7 +22,7 @@ pub(crate) fn is_marked(module: &Module) -> bool
 }
 
 /// What stands behind a docstring, and all where there is none.
-fn behind_docstring(body: &[Stmt]) -> &[Stmt]
+pub(crate) fn behind_docstring(body: &[Stmt]) -> &[Stmt]
     ensures { statements_of result.now ≡ behind_docstring (statements_of body.now) }
 {
     match body {
@@ -61,7 +61,8 @@ fn is_marker(statement: &Stmt) -> bool
     }
 }
 
-fn is_marker_alone(names: &[Import]) -> bool
+/// Whether these are one marker with no alias.
+pub(crate) fn is_marker_alone(names: &[Import]) -> bool
     ensures { result ≡ spec.is_marker_alone names.now }
 {
     match names {

@@ -5,7 +5,6 @@ use Rattle.py_lexer.specs.declared.token.Token.TheVariants as token
 use Rattle.py_lexer.specs.declared.token.Mark.TheVariants as mark
 use Rattle.py_phrases.specs.Tokens as t
 use Rattle.py_phrases.specs.Grammar.{Tokens}
-use Rattle.py_expr.specs.Lines as l
 use Rattle.py_expr.specs.LineEnds.{EndsNames}
 use Rattle.py_expr.specs.Runs.{NameList, name_list, names_at, behind_names, with_name}
 use Rattle.py_phrases.specs.Targets as target

@@ -1,5 +1,5 @@
 ghost use Rattle.std.specs.Prelude.{◌≡◌, ◌++◌, ◌∷◌, reverse, OnOk, IfOk};
-ghost use Rattle.py_tree.specs.Joined.{expression_of, expressions_of, pair_of, keyword_of, keywords_of};
+ghost use Rattle.py_tree.specs.Joined.{expression_of, pair_of, keyword_of};
 ghost use Rattle.py_tree.specs.Syntax as x;
 ghost use Rattle.py_phrases.specs.Emitted as m;
 ghost use Rattle.py_phrases.specs.Stacks.{trees_of, taken, taken_pairs, taken_keywords, pair_top, below_pair, keyword_in, maybe_pair, binary_of, BuildsTop};

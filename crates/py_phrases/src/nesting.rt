@@ -1,4 +1,4 @@
-ghost use Rattle.std.specs.Prelude.{◌≡◌, ◌+◌, ℕ, List, [], ◌∷◌, OnOk, IfOk, max, reverse};
+ghost use Rattle.std.specs.Prelude.{◌≡◌, ◌+◌, ℕ, List, ◌∷◌, OnOk, IfOk, reverse};
 ghost use Rattle.py_phrases.specs.Emitted as m;
 ghost use Rattle.py_phrases.specs.Views.{step_of, steps_of, top, rest};
 

@@ -1,4 +1,4 @@
-ghost use Rattle.std.specs.Prelude.{◌≡◌, IfOk};
+ghost use Rattle.std.specs.Prelude.{IfOk};
 ghost use Rattle.py_lexer.specs.declared.token.Token.TheVariants as token;
 ghost use Rattle.py_phrases.specs.Machine as m;
 ghost use Rattle.py_phrases.specs.Readers.{Acts};

@@ -1,4 +1,4 @@
-ghost use Rattle.std.specs.Prelude.{◌≡◌, IfOk, OnOk, IsTrue, IsNone, Option, Some, None};
+ghost use Rattle.std.specs.Prelude.{◌≡◌, IfOk, OnOk};
 ghost use Rattle.py_lexer.specs.declared.token.Token.TheVariants as token;
 ghost use Rattle.py_phrases.specs.Machine as m;
 ghost use Rattle.py_phrases.specs.Views.{mode_of, frame_of, frames_of, steps_of, maybe_frame};

@@ -1,15 +1,13 @@
-ghost use Rattle.std.specs.Prelude.{◌≡◌, ◌∷◌, IfOk};
-ghost use Rattle.py_tree.specs.Joined.{expression_of};
+ghost use Rattle.std.specs.Prelude.{◌≡◌, IfOk};
 ghost use Rattle.py_phrases.specs.Emitted.{trees};
 ghost use Rattle.py_phrases.specs.Machine as machine;
-ghost use Rattle.py_phrases.specs.Stacks.{trees_of};
 ghost use Rattle.py_phrases.specs.TargetSteps as m;
 ghost use Rattle.py_phrases.specs.Views.{step_of, steps_of};
 
 use crate::build::{build, build_all};
 use crate::machine::Step;
 use crate::phrase::Built;
-use py_tree::expression::{Expr, Target, Texts};
+use py_tree::expression::{Target, Texts};
 use py_tree::text::Text;
 use std::alloc::{AllocError, Global};
 

@@ -190,7 +190,7 @@ fn put_each_member(
 }
 
 /// The name that an import binds.
-pub(crate) fn bound_name(import: &Import) -> &Text
+pub fn bound_name(import: &Import) -> &Text
     ensures { result.now ≡ alias_or import.now.alias import.now.name }
 {
     match &import.alias {

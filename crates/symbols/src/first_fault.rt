@@ -51,7 +51,8 @@ fn earlier_of(first: Fault, fault: Fault) -> Fault
     fault
 }
 
-fn is_no_later(a: Fault, b: Fault) -> bool
+/// Whether `a` is on an earlier line, or on the same with a code that is no greater.
+pub fn is_no_later(a: Fault, b: Fault) -> bool
     ensures { result ≡ no_later a b }
 {
     a.line < b.line || (a.line == b.line && a.code.number() <= b.code.number())

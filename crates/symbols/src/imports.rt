@@ -58,7 +58,7 @@ fn put_imports(scope: &[&Stmt], lines: &mut Lines) -> Result<(), AllocError>
 }
 
 /// By which rules a module is checked.
-pub(crate) fn module_kind(body: &[Stmt]) -> ModuleKind
+pub fn module_kind(body: &[Stmt]) -> ModuleKind
     ensures { result ≡ module_kind (statements_of body.now) }
 {
     if any_static(behind_docstring(body)) {
@@ -103,7 +103,8 @@ fn any_is_static(names: &[Import]) -> bool
     false
 }
 
-fn is_import(kind: &StmtKind) -> bool
+/// Whether it is an import statement.
+pub fn is_import(kind: &StmtKind) -> bool
     ensures { result ≡ top.is_import (kind_of kind.now) }
 {
     match kind {

@@ -10,7 +10,7 @@ use std::marker::Model;
 
 /// Names, each once, in the order in which they came.
 #[derive(Drop)]
-pub(crate) struct Names<'a> {
+pub struct Names<'a> {
     set: IndexSet<&'a [char]>,
 }
 
@@ -23,6 +23,7 @@ impl<'a> Model for Names<'a> {
 }
 
 impl<'a> Names<'a> {
+    /// No names.
     pub fn new(alloc: Global) -> Names<'a>
         ensures { result ≡ [] }
     {
@@ -46,6 +47,7 @@ impl<'a> Names<'a> {
         self.set.contains(name.as_slice())
     }
 
+    /// The number of names.
     #[tactic(auto, using(crate::proofs::Sets::length_pointed))]
     pub fn len(&self) -> usize
         ensures { result ≡ length self.now }

@@ -51,7 +51,7 @@ const EXCEPTIONS: [ExcKind; 15] = [
 const UNDERSCORES: [char; 2] = ['_', '_'];
 
 /// Whether a name is this word of ASCII.
-pub(crate) fn is_word(name: &Text, word: &[u8]) -> bool
+pub fn is_word(name: &Text, word: &[u8]) -> bool
     ensures { result ≡ bytes_eq name.now word.now }
 {
     let mut rest = name.as_slice();
@@ -70,14 +70,14 @@ pub(crate) fn is_word(name: &Text, word: &[u8]) -> bool
 }
 
 /// Whether both are one name.
-pub(crate) fn is_same(name: &Text, other: &Text) -> bool
+pub fn is_same(name: &Text, other: &Text) -> bool
     ensures { result ≡ bytes_eq name.now other.now }
 {
     name.as_slice() == other.as_slice()
 }
 
 /// Whether a name is among these words.
-pub(crate) fn is_among(name: &Text, words: &[&[u8]]) -> bool
+pub fn is_among(name: &Text, words: &[&[u8]]) -> bool
     ensures { result ≡ among name.now (spellings words.now) }
 {
     for word in words {
@@ -140,14 +140,14 @@ fn ends(name: &Text) -> bool
 }
 
 /// Whether a module of that name is a marker.
-pub(crate) fn is_marker(name: &Text) -> bool
+pub fn is_marker(name: &Text) -> bool
     ensures { result ≡ spec.is_marker name.now }
 {
     is_word(name, b"__strict__") || is_word(name, b"__static__")
 }
 
 /// The static name that an import of a name from a module binds, if it is one.
-pub(crate) fn static_name(from: &Text, name: &Text) -> Option<StaticName>
+pub fn static_name(from: &Text, name: &Text) -> Option<StaticName>
     ensures { result ≡ spec.static_name from.now name.now }
 {
     if is_word(from, b"typing") {
@@ -159,7 +159,8 @@ pub(crate) fn static_name(from: &Text, name: &Text) -> Option<StaticName>
     }
 }
 
-fn typing_name(name: &Text) -> Option<StaticName>
+/// The static name that an import of a name from `typing` binds, if it is one.
+pub fn typing_name(name: &Text) -> Option<StaticName>
     ensures { result ≡ spec.typing_name name.now }
 {
     if is_word(name, b"Optional") {
@@ -171,7 +172,8 @@ fn typing_name(name: &Text) -> Option<StaticName>
     }
 }
 
-fn own_static_name(name: &Text) -> Option<StaticName>
+/// The static name that an import of a name from `__static__` binds, if it is one.
+pub fn own_static_name(name: &Text) -> Option<StaticName>
     ensures { result ≡ spec.own_static_name name.now }
 {
     if is_word(name, b"int64") {

@@ -6,6 +6,8 @@ mod answer;
 #[cfg(test)]
 mod blocks;
 #[cfg(test)]
+mod folders;
+#[cfg(test)]
 mod lines;
 #[cfg(test)]
 mod phrases;

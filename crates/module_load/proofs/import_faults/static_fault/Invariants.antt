@@ -1,0 +1,7 @@
+use Rattle.std.proofs.Common.{take}
+use Rattle.symbols.specs.FirstFaults.{IsFirstOf}
+use Rattle.module_load.specs.Imports as rule
+use Rattle.module_load.proofs.import_faults.static_fault.Given as goal
+
+abbrev pub invariant-loop-import : goal.invariant-loop-import
+invariant-loop-import l = IsFirstOf (rule.static_faults l.importing l.line (take l.import-index l.names)) l.first

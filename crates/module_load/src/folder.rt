@@ -1,0 +1,111 @@
+ghost use Rattle.std.specs.Prelude.{◌≡◌, ◌≤◌, ◌<◌, IfOk, length, map};
+ghost use Rattle.std.specs.List.{filter_map, position};
+ghost use Rattle.std.specs.Str.{bytes_eq};
+ghost use Rattle.module_load.specs.Folders.{AreSources, IsSources, OneFolder, direct_import, direct_imports, file_of, graph_of, names_of};
+ghost use Rattle.module_load.specs.Sources.{state_of};
+
+use crate::preparing::prepare;
+use crate::source::{Source, SourceState};
+use import_graph::graph::{Graph, build_graph};
+use import_graph::imports::{ImportRow, imports_of};
+use import_graph::rows::{DirectImport, GraphRow};
+use lists::Items;
+use py_tree::text::Text;
+use registry_core::sources::Sources;
+use std::alloc::{AllocError, Global};
+
+/// The file of a module.
+#[derive(Drop)]
+pub struct ModuleFile {
+    /// The name of the module.
+    pub name: String,
+    pub bytes: Vec<u8>,
+}
+
+/// What threads share.
+trait Shared: Send + Sync + Drop {}
+
+impl Shared for Source {}
+
+impl Shared for Sources<Source> {}
+
+/// What each module of a folder is by itself, and which it imports, from their files in the order of their numbers. A name that
+/// stands twice is that of the first. In time linear in the bytes, and for each import in the number of modules.
+pub fn sources_of(alloc: Global, files: &[ModuleFile]) -> Result<Sources<Source>, AllocError>
+    requires { length files.now ≤ 4294967295 }
+    ensures { IfOk result (λ all. IsSources (map file_of files.now) all) }
+{
+    let list = prepare_all(alloc, files)?;
+    let graph = graph_of(alloc, list.as_slice())?;
+    Ok(Sources { list, graph })
+}
+
+/// The same files have the same names, states and imports.
+pub fn one_folder()
+    ensures { OneFolder }
+{}
+
+/// What each file is by itself.
+fn prepare_all(alloc: Global, files: &[ModuleFile]) -> Result<Items<Source>, AllocError>
+    ensures { IfOk result (λ list. AreSources (map file_of files.now) list) }
+{
+    let mut list = Items::new(alloc);
+    for file in files {
+        list.push(prepare(alloc, file.name.as_str(), &file.bytes)?)?;
+    }
+    Ok(list)
+}
+
+/// Which of these modules import which.
+fn graph_of(alloc: Global, list: &[Source]) -> Result<Graph, AllocError>
+    requires { length list.now ≤ 4294967295 }
+    ensures { IfOk result (λ graph. graph ≡ graph_of list.now) }
+{
+    let mut rows = Items::new(alloc);
+    for source in list {
+        rows.push(direct_imports(alloc, list, source)?)?;
+    }
+    build_graph(alloc, &rows)
+}
+
+/// Which of these modules the source imports, in the order of its text.
+fn direct_imports(alloc: Global, list: &[Source], source: &Source) -> Result<GraphRow, AllocError>
+    requires { length list.now ≤ 4294967295 }
+    ensures { IfOk result (λ row. row ≡ direct_imports (names_of list.now) (state_of source.now.state)) }
+{
+    match &source.state {
+        SourceState::Tree(tree) => {
+            let rows = imports_of(alloc, tree)?;
+            numbered(alloc, list, rows.as_slice())
+        }
+        _ => Ok(Items::new(alloc)),
+    }
+}
+
+/// The imports that name one of these modules, by its number.
+fn numbered(alloc: Global, list: &[Source], rows: &[ImportRow]) -> Result<GraphRow, AllocError>
+    requires { length list.now ≤ 4294967295 }
+    ensures { IfOk result (λ row. row ≡ filter_map (direct_import (names_of list.now)) rows.now) }
+{
+    let mut direct = Items::new(alloc);
+    for row in rows {
+        if let Some(number) = number_of(list, &row.module) {
+            direct.push(DirectImport {
+                line: row.line,
+                module: number,
+            })?;
+        }
+    }
+    Ok(direct)
+}
+
+/// The number of the first of these modules that has the name.
+fn number_of(list: &[Source], name: &Text) -> Option<u32>
+    requires { length list.now ≤ 4294967295 }
+    ensures { result ≡ position (bytes_eq name.now) (names_of list.now) }
+{
+    let place = list
+        .iter()
+        .position(|source| name.as_slice() == source.name.as_slice())?;
+    Some(place as u32)
+}

@@ -1,0 +1,23 @@
+use lists::Items;
+use py_tree::fault::Fault;
+use py_tree::text::Text;
+
+/// What is decided of a module.
+#[derive(Drop)]
+pub enum Verdict {
+    Published(Globals),
+    Refused(Fault),
+    /// It has no marker line, so it is left alone.
+    Plain,
+}
+
+/// A global of a published module.
+#[derive(Drop)]
+pub struct ModuleGlobal {
+    pub name: Text,
+    /// An import binds it to a module.
+    pub holds_module: bool,
+}
+
+/// The globals of a module, each once.
+pub type Globals = Items<ModuleGlobal>;
