@@ -9,3 +9,4 @@ pub mod Held
 pub mod Named
 pub mod OneDecision
 pub mod Decided
+pub mod ExamplesOfDecisions
