@@ -27,6 +27,7 @@ among_with names new name = by (among new names) refl
     known : (b : Bool) → bytes_eq name new ≡ b → among new names ≡ true → among name names ≡ (among name names || b)
     known true e there = let n : among name names ≡ true = subst (λ (x : Text). among x names ≡ true) (sym ((bytes_eq-Decides name new).0 e)) there in rw n refl
     known false e there = sym (or_false (among name names))
+
     by : (t : Bool) → among new names ≡ t → among name (if t then names else names ++ new ∷ []) ≡ (among name names || bytes_eq name new)
     by true there = known (bytes_eq name new) refl there
     by false there = among_push names new name

@@ -77,13 +77,7 @@ fn earlier(a: Option<Fault>, b: Option<Fault>) -> Option<Fault>
     match (a, b) {
         (None, b) => b,
         (Some(a), None) => Some(a),
-        (Some(a), Some(b)) => {
-            if is_no_later(a, b) {
-                Some(a)
-            } else {
-                Some(b)
-            }
-        }
+        (Some(a), Some(b)) => { if is_no_later(a, b) { Some(a) } else { Some(b) } }
     }
 }
 

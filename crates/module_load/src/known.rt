@@ -18,10 +18,7 @@ pub trait Known {
 }
 
 /// The global of that name.
-pub(crate) fn global_named<'a>(
-    globals: &'a [ModuleGlobal],
-    name: &Text,
-) -> Option<&'a ModuleGlobal>
+pub(crate) fn global_named<'a>(globals: &'a [ModuleGlobal], name: &Text) -> Option<&'a ModuleGlobal>
     ensures { option_copied result ≡ global_named name.now globals.now }
 {
     for global in globals {

@@ -4,6 +4,8 @@
 #[cfg(test)]
 mod blocks;
 #[cfg(test)]
+mod decisions;
+#[cfg(test)]
 mod lines;
 #[cfg(test)]
 mod sources;
