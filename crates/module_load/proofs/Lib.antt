@@ -11,3 +11,4 @@ pub mod Held
 pub mod Named
 pub mod OneDecision
 pub mod Decided
+pub mod ExamplesOfDecisions
