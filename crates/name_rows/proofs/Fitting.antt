@@ -13,6 +13,9 @@ use Rattle.py_lexer.specs.Literals.{tokens_fit, lines_fit}
 use Rattle.py_lexer.specs.declared.token.LogicalLine.{LogicalLine}
 use Rattle.py_expr.specs.Forms.{form_of}
 use Rattle.py_expr.specs.Literals.{form_fits}
+use Rattle.py_expr.specs.LineAnswers.{IsSo}
+use Rattle.py_expr.specs.declared.form.Form.{Form}
+use Rattle.py_expr.proofs.Fitting.{form_fits_there}
 use Rattle.py_blocks.specs.Answers.{Lawful}
 use Rattle.py_blocks.specs.Fits.{forms_fit}
 use Rattle.py_blocks.specs.Rows.{Row, row_of, rows_of}
