@@ -7,7 +7,7 @@ use Rattle.py_tree.specs.Syntax.{Text}
 use Rattle.symbols.specs.declared.binding.StaticName.{StaticName}
 use Rattle.symbols.specs.Words.{among, is_builtin}
 use Rattle.symbols.specs.SpecialNames.{Context, static_of}
-use Rattle.symbols.specs.Uses.{Bound, local, static_name, global, builtin, module_name, nothing, StandsAt, here, behind, IsAbsent, IsUnbound, IsBoundTo, to_local, to_static_name, to_global, to_module_name, to_builtin, to_nothing, one_more, place_of, local_or, static_or, global_or, use_of, OneBinding}
+use Rattle.symbols.specs.Uses.{Bound, builtin, module_name, nothing, StandsAt, here, behind, IsAbsent, IsUnbound, IsBoundTo, to_local, to_static_name, to_global, to_module_name, to_builtin, to_nothing, one_more, place_of, local_or, static_or, global_or, use_of, OneBinding}
 
 -- ---- the place of a name
 
