@@ -11,3 +11,6 @@ pub mod Held
 pub mod Named
 pub mod OneDecision
 pub mod Decided
+pub mod RightOnes
+pub mod RightFiles
+pub mod Loading
