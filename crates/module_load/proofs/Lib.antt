@@ -14,3 +14,4 @@ pub mod Decided
 pub mod RightOnes
 pub mod RightFiles
 pub mod Loading
+pub mod ExamplesOfDecisions

@@ -75,9 +75,9 @@ fn earlier(a: Option<Fault>, b: Option<Fault>) -> Option<Fault>
     ensures { result ≡ spec.earlier a b }
 {
     match (a, b) {
-        (None, b) => b,
+        (Some(a), Some(b)) if is_no_later(a, b) => Some(a),
         (Some(a), None) => Some(a),
-        (Some(a), Some(b)) => { if is_no_later(a, b) { Some(a) } else { Some(b) } }
+        (_, b) => b,
     }
 }
 

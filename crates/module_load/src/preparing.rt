@@ -23,7 +23,7 @@ use std::alloc::{AllocError, Global};
 /// The greatest size of a file, in bytes.
 const GREATEST_SIZE: usize = 1_048_576;
 
-/// What the bytes of a module's file are by themselves, under the module's name. In time linear in the bytes.
+/// What the bytes of a module's file are by themselves, under the module's name. In time near linear in the bytes.
 pub fn prepare(alloc: Global, name: &str, bytes: &[u8]) -> Result<Source, AllocError>
     ensures name { IfOk result (λ source. source.name ≡ chars name.now) }
     // What is answered is so.

@@ -16,7 +16,7 @@ pub enum SourceState {
     Tree(Module),
 }
 
-/// A module of a folder. Its statements stand where they may.
+/// A module of a folder. Its tree is lawful: each statement stands where it may, and each literal is an `int`.
 #[derive(Drop)]
 pub struct Source {
     pub name: Text,

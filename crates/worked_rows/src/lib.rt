@@ -6,6 +6,8 @@ mod answer;
 #[cfg(test)]
 mod blocks;
 #[cfg(test)]
+mod decisions;
+#[cfg(test)]
 mod folders;
 #[cfg(test)]
 mod lines;

@@ -1,0 +1,93 @@
+#!/usr/bin/env python3
+"""Times `resolve` on modules of growing size: of many distinct names, and of classes that each have the one before as their base. It
+prints a row of a table for each kind of module: the milliseconds of the processor, and how many times the longest takes as long as
+half of it. It builds the program below over a copy of the crates that it needs."""
+import os, re, shutil, subprocess, sys, tempfile
+
+TOP = os.path.dirname(os.path.dirname(os.path.abspath(__file__)))
+BELOW = ["lists", "py_values", "py_tree", "py_lexer", "py_phrases", "py_expr", "py_blocks", "symbols", "name_rows"]
+PROGRAM = r"""//! Reads modules on standard input, with `$` between them, and prints the least microseconds that the names of each took.
+#![tactic(auto)]
+
+use name_rows::reading::read;
+use py_tree::text::Text;
+use std::alloc::{AllocError, Global};
+use std::io::{self, Read};
+use std::time::CpuClock;
+use symbols::outer::{Outer, OuterBindings};
+use symbols::resolve::resolve;
+
+fn outer(alloc: Global) -> Result<Outer, AllocError> {
+    Ok(Outer {
+        name: Text::from_str(alloc, "m")?,
+        number: 0,
+        bindings: OuterBindings::new(alloc),
+    })
+}
+
+fn main(rt: HostRuntime) -> io::Result<()> {
+    let alloc = rt.alloc();
+    let mut text = Vec::new(alloc);
+    let _ = rt.reader().read_to_end(&mut text)?;
+    let outer = outer(alloc)?;
+    for module in text.split(|byte| *byte == b'$') {
+        let Ok(tree) = read(alloc, module) else {
+            return Ok(());
+        };
+        let mut least = u128::MAX;
+        for _ in 0..5 {
+            let before = rt.process_cpu_time()?;
+            let Ok(_names) = resolve(alloc, &tree, &outer) else {
+                return Ok(());
+            };
+            let took = rt.process_cpu_time()?.saturating_sub(before);
+            least = least.min(took.as_micros());
+        }
+        println!(rt; "took {least}")?;
+    }
+    Ok(())
+}
+"""
+
+
+def distinct(size):
+    """So many lines of 20 bytes, each with a name of its own."""
+    return "".join(f"name_{n:010} = 1\n" for n in range(size))
+
+
+def derived(size):
+    """So many classes, each below the one before."""
+    return "class C0: pass\n" + "".join(f"class C{n}(C{n - 1}): pass\n" for n in range(1, size))
+
+
+MODULES = {
+    "distinct names": (distinct, [12_500, 25_000, 50_000]),
+    "classes below one another": (derived, [1_000, 2_000, 4_000]),
+}
+
+
+def build(room):
+    """The program's crate, beside copies of those that it needs."""
+    for name in BELOW:
+        shutil.copytree(os.path.join(TOP, "crates", name), os.path.join(room, "crates", name), ignore=shutil.ignore_patterns("incremental"))
+    with open(os.path.join(TOP, "crates.txt")) as file:
+        lines = [line for line in file if line.split(":")[0] in BELOW]
+    with open(os.path.join(room, "crates.txt"), "w") as file:
+        file.writelines([*lines, "name_times: py_tree symbols name_rows\n"])
+    crate = os.path.join(room, "crates", "name_times")
+    os.makedirs(os.path.join(crate, "src"))
+    with open(os.path.join(crate, "src", "main.rt"), "w") as file:
+        file.write(PROGRAM)
+    return crate
+
+
+with tempfile.TemporaryDirectory() as room:
+    text = "$".join(module(size) for module, sizes in MODULES.values() for size in sizes)
+    ran = subprocess.run(["rt", "run"], cwd=build(room), input=text, stdout=subprocess.PIPE, stderr=subprocess.STDOUT, text=True)
+times = [int(micros) / 1000 for micros in re.findall(r"(?m)^took (\d+)$", ran.stdout)]
+if len(times) != sum(len(sizes) for _, sizes in MODULES.values()):
+    sys.exit(ran.stdout + "\nbench/names.py: a module has no names")
+for name, (_, sizes) in MODULES.items():
+    row, times = times[: len(sizes)], times[len(sizes) :]
+    cells = " | ".join(f"{size:,}: {time:.1f} ms" for size, time in zip(sizes, row))
+    print(f"| {name} | {cells} | {row[-1] / row[-2]:.1f} |")
