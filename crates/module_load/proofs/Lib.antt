@@ -11,4 +11,7 @@ pub mod Held
 pub mod Named
 pub mod OneDecision
 pub mod Decided
+pub mod RightOnes
+pub mod RightFiles
+pub mod Loading
 pub mod ExamplesOfDecisions

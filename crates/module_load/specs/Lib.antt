@@ -9,3 +9,4 @@ pub mod Bodies
 pub mod RightDecisions
 pub mod Views
 pub mod FirstOnes
+pub mod Right

@@ -22,13 +22,6 @@ pub struct ModuleFile {
     pub bytes: Vec<u8>,
 }
 
-/// What threads share.
-trait Shared: Send + Sync + Drop {}
-
-impl Shared for Source {}
-
-impl Shared for Sources<Source> {}
-
 /// What each module of a folder is by itself, and which it imports, from their files in the order of their numbers. A name that
 /// stands twice is that of the first. In time linear in the bytes, and for each import in the number of modules.
 pub fn sources_of(alloc: Global, files: &[ModuleFile]) -> Result<Sources<Source>, AllocError>
@@ -100,7 +93,7 @@ fn numbered(alloc: Global, list: &[Source], rows: &[ImportRow]) -> Result<GraphR
 }
 
 /// The number of the first of these modules that has the name.
-fn number_of(list: &[Source], name: &Text) -> Option<u32>
+pub(crate) fn number_of(list: &[Source], name: &Text) -> Option<u32>
     requires { length list.now ≤ 4294967295 }
     ensures { result ≡ position (bytes_eq name.now) (names_of list.now) }
 {

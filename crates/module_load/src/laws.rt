@@ -1,5 +1,6 @@
 ghost use Rattle.module_load.specs.Markers.{OnePlace};
 ghost use Rattle.module_load.specs.Preparing.{AtMostOneState};
+ghost use Rattle.module_load.specs.Right.{KnownExactly, RightIsRight, RightOfFiles};
 ghost use Rattle.module_load.specs.RightDecisions.{OneDecision};
 
 /// Bytes prepare to at most one state.
@@ -15,4 +16,19 @@ pub fn one_place()
 /// One decision of a module is right.
 pub fn one_decision()
     ensures { OneDecision }
+{}
+
+/// What is right of a tree by the function is what is right by the relation.
+pub fn right_is_right()
+    ensures { RightIsRight }
+{}
+
+/// What is right depends on the files alone.
+pub fn right_of_files()
+    ensures { RightOfFiles }
+{}
+
+/// What is decided of a module that the top part names is known, so that a missing verdict is never read as a missing module.
+pub fn known_exactly()
+    ensures { KnownExactly }
 {}

@@ -11,5 +11,6 @@ pub mod laws;
 mod outer;
 pub mod preparing;
 pub mod source;
+pub mod strict_python;
 mod top_part;
 pub mod verdict;
