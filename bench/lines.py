@@ -2,9 +2,9 @@
 """Times the reading of one long line of tokens, at 25,000 tokens and at two, four and eight times as many. It prints a row of
 a table for each kind of line: the milliseconds of the processor, and how many times the longest takes as long as half of
 it. It builds the program below over a copy of the crates that it needs."""
-import os, re, shutil, subprocess, sys, tempfile
+import re, sys
+from measuring import printed
 
-TOP = os.path.dirname(os.path.dirname(os.path.abspath(__file__)))
 SIZES = [25_000, 50_000, 100_000, 200_000]
 BELOW = ["lists", "py_tree", "py_lexer", "py_phrases"]
 PROGRAM = r"""//! Reads each line on standard input some times, and prints its tokens and the least microseconds that one reading took.
@@ -68,27 +68,11 @@ LINES = {
 }
 
 
-def build(room):
-    """The program's crate, beside copies of those that it needs."""
-    for name in BELOW:
-        shutil.copytree(os.path.join(TOP, "crates", name), os.path.join(room, "crates", name), ignore=shutil.ignore_patterns("incremental"))
-    with open(os.path.join(TOP, "crates.txt")) as file:
-        lines = [line for line in file if line.split(":")[0] in BELOW]
-    with open(os.path.join(room, "crates.txt"), "w") as file:
-        file.writelines([*lines, "line_times: " + " ".join(BELOW) + " sqlite_items\n"])
-    crate = os.path.join(room, "crates", "line_times")
-    os.makedirs(os.path.join(crate, "src"))
-    with open(os.path.join(crate, "src", "main.rt"), "w") as file:
-        file.write(PROGRAM)
-    return crate
-
-
-with tempfile.TemporaryDirectory() as room:
-    text = "".join(line(size) for line in LINES.values() for size in SIZES)
-    ran = subprocess.run(["rt", "run"], cwd=build(room), input=text, stdout=subprocess.PIPE, stderr=subprocess.STDOUT, text=True)
-times = [int(micros) / 1000 for micros in re.findall(r"(?m)^\d+ (\d+)$", ran.stdout)]
+text = "".join(line(size) for line in LINES.values() for size in SIZES)
+output = printed("line_times", PROGRAM, BELOW, text)
+times = [int(micros) / 1000 for micros in re.findall(r"(?m)^\d+ (\d+)$", output)]
 if len(times) != len(SIZES) * len(LINES):
-    sys.exit(ran.stdout + "\nbench/lines.py: a line was not read")
+    sys.exit(output + "\nbench/lines.py: a line was not read")
 for place, name in enumerate(LINES):
     row = times[place * len(SIZES) :][: len(SIZES)]
     print(f"| {name} | " + " | ".join(f"{time:.1f} ms" for time in row) + f" | {row[-1] / row[-2]:.1f} |")

@@ -2,9 +2,9 @@
 """Times `resolve` on modules of growing size: of many distinct names, and of classes that each have the one before as their base. It
 prints a row of a table for each kind of module: the milliseconds of the processor, and how many times the longest takes as long as
 half of it. It builds the program below over a copy of the crates that it needs."""
-import os, re, shutil, subprocess, sys, tempfile
+import re, sys
+from measuring import printed
 
-TOP = os.path.dirname(os.path.dirname(os.path.abspath(__file__)))
 BELOW = ["lists", "py_values", "py_tree", "py_lexer", "py_phrases", "py_expr", "py_blocks", "symbols", "name_rows"]
 PROGRAM = r"""//! Reads modules on standard input, with `$` between them, and prints the least microseconds that the names of each took.
 #![tactic(auto)]
@@ -66,27 +66,11 @@ MODULES = {
 }
 
 
-def build(room):
-    """The program's crate, beside copies of those that it needs."""
-    for name in BELOW:
-        shutil.copytree(os.path.join(TOP, "crates", name), os.path.join(room, "crates", name), ignore=shutil.ignore_patterns("incremental"))
-    with open(os.path.join(TOP, "crates.txt")) as file:
-        lines = [line for line in file if line.split(":")[0] in BELOW]
-    with open(os.path.join(room, "crates.txt"), "w") as file:
-        file.writelines([*lines, "name_times: py_tree symbols name_rows\n"])
-    crate = os.path.join(room, "crates", "name_times")
-    os.makedirs(os.path.join(crate, "src"))
-    with open(os.path.join(crate, "src", "main.rt"), "w") as file:
-        file.write(PROGRAM)
-    return crate
-
-
-with tempfile.TemporaryDirectory() as room:
-    text = "$".join(module(size) for module, sizes in MODULES.values() for size in sizes)
-    ran = subprocess.run(["rt", "run"], cwd=build(room), input=text, stdout=subprocess.PIPE, stderr=subprocess.STDOUT, text=True)
-times = [int(micros) / 1000 for micros in re.findall(r"(?m)^took (\d+)$", ran.stdout)]
+text = "$".join(module(size) for module, sizes in MODULES.values() for size in sizes)
+output = printed("name_times", PROGRAM, BELOW, text)
+times = [int(micros) / 1000 for micros in re.findall(r"(?m)^took (\d+)$", output)]
 if len(times) != sum(len(sizes) for _, sizes in MODULES.values()):
-    sys.exit(ran.stdout + "\nbench/names.py: a module has no names")
+    sys.exit(output + "\nbench/names.py: a module has no names")
 for name, (_, sizes) in MODULES.items():
     row, times = times[: len(sizes)], times[len(sizes) :]
     cells = " | ".join(f"{size:,}: {time:.1f} ms" for size, time in zip(sizes, row))
