@@ -62,9 +62,6 @@ const FOLDER: [Case; 6] = [
     },
 ];
 
-/// Takes what threads may share.
-fn share_among_threads<T: Send + Sync>(_shared: &T) {}
-
 fn files_of(alloc: Global, cases: &[Case]) -> Result<Vec<ModuleFile>, Fail> {
     let mut files = Vec::new(alloc);
     for case in cases {
@@ -90,7 +87,6 @@ fn a_folder_has_its_sources_and_their_imports(rt: HostRuntime) -> Result<(), Fai
     let files = files_of(alloc, &FOLDER)?;
     assert!(rt; files.len() <= 4294967295);
     let all = sources_of(alloc, &files)?;
-    share_among_threads(&all);
     assert!(rt; all.graph.count() as usize == FOLDER.len());
     for module in 0..all.graph.count() {
         let case = &FOLDER[module as usize];
