@@ -15,13 +15,7 @@ use std::alloc::{AllocError, Global};
 /// How the modules of a folder are loaded: which is plain, which is refused at which line by which code, and which is published.
 #[derive(Clone, Copy)]
 pub struct StrictPython {
-    alloc: Global,
-}
-
-impl StrictPython {
-    pub fn new(alloc: Global) -> StrictPython {
-        StrictPython { alloc }
-    }
+    pub alloc: Global,
 }
 
 impl Loads for StrictPython {
@@ -66,7 +60,7 @@ impl Loads for StrictPython {
     }
 
     fn refuses(&self, verdict: &Verdict) -> bool {
-        matches!(verdict, Verdict::Refused(_))
+        verdict.is_refused()
     }
 }
 

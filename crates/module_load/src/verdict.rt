@@ -1,3 +1,6 @@
+ghost use Rattle.std.specs.Prelude.{◌≡◌};
+ghost use Rattle.module_load.specs.Right.{is_refused};
+
 use lists::Items;
 use py_tree::fault::Fault;
 use py_tree::text::Text;
@@ -9,6 +12,14 @@ pub enum Verdict {
     Refused(Fault),
     /// It has no marker line, so it is left alone.
     Plain,
+}
+
+impl Verdict {
+    pub fn is_refused(&self) -> bool
+        ensures { result ≡ is_refused self.now }
+    {
+        matches!(self, Verdict::Refused(_))
+    }
 }
 
 /// A global of a published module.

@@ -1,12 +1,6 @@
 pub mod Writing
-pub mod ReportLemmas
 pub mod ModuleLemmas
-pub mod Reading
+pub mod ReadSoFar
 pub mod SortedNames
 pub mod FolderModules
 pub mod RunLemmas
-pub mod LiteralLemmas
-pub mod AssignmentLemmas
-pub mod OnceLemmas
-pub mod LineLemmas
-pub mod SpellingLemmas

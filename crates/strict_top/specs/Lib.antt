@@ -1,6 +1,4 @@
 pub mod Words
-pub mod Assignments
-pub mod Verdicts
 pub mod Modules
 pub mod Reports
 pub mod Runs

@@ -1,5 +1,5 @@
 -- The modules of a folder.
-use Rattle.std.specs.Prelude.{◌≡◌, ℕ, ◌-◌, ◌&&◌, nat_eq, Bool, not, if◌then◌else◌, List, [], ◌∷◌, ◌++◌, length, take, codes, chars, Option, Some, None}
+use Rattle.std.specs.Prelude.{◌≡◌, ℕ, ◌-◌, ◌&&◌, ◌||◌, nat_eq, nat_lt, Bool, not, if◌then◌else◌, List, ◌++◌, length, take, codes, chars, Option, Some, None, sum_by}
 use Rattle.std.specs.List.{ends_with, list_any, filter_map}
 use Rattle.std.specs.Option.{option_map}
 use Rattle.std.specs.Ordering.{nat_cmp}
@@ -9,17 +9,12 @@ use Rattle.std.specs.Str.{bytes_eq}
 use Rattle.std.specs.FinMap.{entries, from_entries, get}
 use Rattle.outside.specs.Files.{Files, Told, Untold, Missing, Holds, front_of}
 use Rattle.py_lexer.specs.Names.{is_identifier, is_keyword}
+use Rattle.module_load.specs.Folders.{File}
+use Rattle.module_load.specs.Imports.{reserved}
 
--- A module as it is read: its name, and the front of its bytes.
-abbrev pub Source : Type 0
-Source = List ℕ × List ℕ
-
--- Names that an import gives a meaning of its own.
-abbrev pub reserved_modules : List (List ℕ)
-reserved_modules = codes "__strict__" ∷ codes "__static__" ∷ codes "__host__" ∷ codes "__future__" ∷ codes "typing" ∷ []
-
+-- Names that an import gives a meaning of its own are no module's.
 abbrev pub is_module_name : List ℕ → Bool
-is_module_name name = is_identifier (chars name) && not (is_keyword name) && not (list_any (bytes_eq name) reserved_modules)
+is_module_name name = is_identifier (chars name) && not (is_keyword name) && not (list_any (bytes_eq name) reserved)
 
 -- The name of the module that lies in the file of that name, `NAME.py`, or none where it is no module's.
 abbrev pub module_in : List ℕ → Option (List ℕ)
@@ -27,25 +22,38 @@ module_in file =
     let name = take (length file - 3) file in
     if ends_with nat_eq file (codes ".py") && is_module_name name then Some name else None
 
--- The module that lies in a file.
-abbrev pub source_in : List ℕ × List ℕ → Option Source
-source_in file = option_map (λ name. (name, front_of file.1)) (module_in file.0)
+-- The module that lies in a file, by its name and the front of its bytes.
+abbrev pub module_of : List ℕ × List ℕ → Option File
+module_of file = option_map (λ name. (name, front_of file.1)) (module_in file.0)
 
 -- The modules of a directory, each with its bytes, in the order of the bytes of their names.
-abbrev pub modules : Files → List Source
-modules files = entries (from_entries {R = slice_cmp nat_cmp} (filter_map source_in (entries files)))
+abbrev pub modules : Files → List File
+modules files = entries (from_entries {R = slice_cmp nat_cmp} (filter_map module_of (entries files)))
 
 -- The module lies in the directory: its name makes that of a file, which has these bytes at its front.
-pub record LiesIn (files : Files) (source : Source) : Type 0 where
-  pub is_module : module_in (source.0 ++ codes ".py") ≡ Some source.0
-  pub is_front : option_map front_of (get files (source.0 ++ codes ".py")) ≡ Some source.1
+pub record LiesIn (files : Files) (file : File) : Type 0 where
+  pub is_module : module_in (file.0 ++ codes ".py") ≡ Some file.0
+  pub is_front : option_map front_of (get files (file.0 ++ codes ".py")) ≡ Some file.1
 
 -- The order of the modules.
-abbrev pub source_cmp : Source → Source → Ordering
-source_cmp a b = slice_cmp nat_cmp a.0 b.0
+abbrev pub file_cmp : File → File → Ordering
+file_cmp a b = slice_cmp nat_cmp a.0 b.0
 
--- The modules that were read are those of the directory, where it is told.
-abbrev pub AreModules : Told → List Source → Type 0
-AreModules Untold sources = Unit {0}
-AreModules Missing sources = ⊥
-AreModules (Holds files) sources = sources ≡ modules files
+-- The modules are those of the directory, where it is told.
+abbrev pub AreModules : Told → List File → Type 0
+AreModules Untold files = Unit {0}
+AreModules Missing files = ⊥
+AreModules (Holds told) files = files ≡ modules told
+
+-- The most modules of a folder, and the most bytes of all of them.
+abbrev pub greatest_count : ℕ
+greatest_count = 1024
+
+abbrev pub greatest_size : ℕ
+greatest_size = 33554432
+
+abbrev pub size_of : List File → ℕ
+size_of files = sum_by (λ (file : File). length file.1) files
+
+abbrev pub is_too_large : List File → Bool
+is_too_large files = nat_lt greatest_count (length files) || nat_lt greatest_size (size_of files)

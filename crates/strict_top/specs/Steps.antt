@@ -1,27 +1,46 @@
 -- No definitions of the loader: what the private steps of a run promise one another.
-use Rattle.std.specs.Prelude.{◌≡◌, ℕ, List, ◌++◌, codes, map, Option, take, string_bytes}
+use Rattle.std.specs.Prelude.{◌≡◌, ℕ, true, false, List, [], ◌∷◌, ◌++◌, length, codes, map, Option, take}
 use Rattle.std.specs.List.{AllByRecursion}
 use Rattle.outside.specs.Bytes.{Appends}
 use Rattle.outside.specs.Faults.{HasRisen}
 use Rattle.outside.specs.Files.{Told, IsReading}
-use Rattle.strict_top.specs.declared.report.Decided.{Decided}
+use Rattle.registry_core.specs.declared.sources.Sources.{Sources}
+use Rattle.module_load.specs.declared.source.Source.{Source}
+use Rattle.module_load.specs.declared.verdict.Verdict.{Verdict}
+use Rattle.module_load.specs.Folders.{File, IsSources, file_of}
+use Rattle.strict_top.specs.declared.reading.Found.{Found}
+use Rattle.strict_top.specs.declared.reading.Found.TheVariants as found
 use Rattle.strict_top.specs.declared.status.Status.{Status}
 use Rattle.strict_top.specs.declared.status.Status.TheVariants.{FolderFault, SinkFault, OutOfMemory}
-use Rattle.strict_top.specs.Modules.{Source}
-use Rattle.strict_top.specs.Reports.{Report, Judged}
-
--- A module with its verdict, as reports have it.
-abbrev pub view_of : Decided → Judged
-view_of decided = (string_bytes decided.name, decided.verdict)
+use Rattle.strict_top.specs.Modules.{AreModules, is_too_large}
+use Rattle.strict_top.specs.Reports.{Report, Judged, judged}
 
 -- What a reading of the module's file gives.
-abbrev pub IsSourceIn : Told → Source → Type 0
-IsSourceIn told source = IsReading told (source.0 ++ codes ".py") source.1
+abbrev pub IsFileIn : Told → File → Type 0
+IsFileIn told file = IsReading told (file.0 ++ codes ".py") file.1
 
 -- The modules of these names were read, in this order.
-pub record AreRead (told : Told) (names : List (List ℕ)) (sources : List Source) : Type 0 where
-  pub named : map (λ (source : Source). source.0) sources ≡ names
-  pub each : AllByRecursion (IsSourceIn told) sources
+pub record AreRead (told : Told) (names : List (List ℕ)) (files : List File) : Type 0 where
+  pub named : map (λ (file : File). file.0) files ≡ names
+  pub each : AllByRecursion (IsFileIn told) files
+
+-- What was found in a directory.
+abbrev pub IsFound : Told → Found → Type 0
+IsFound told (found.Modules files) = AreModules told (map file_of files.items) × (is_too_large (map file_of files.items) ≡ false)
+IsFound told found.TooLarge = (files : List File) × AreModules told files × (is_too_large files ≡ true)
+
+-- Modules with verdicts, side by side.
+abbrev pub paired : List File → List Verdict → List Judged
+paired [] verdicts = []
+paired (file ∷ files) [] = []
+paired (file ∷ files) (verdict ∷ verdicts) = (file.0, verdict) ∷ paired files verdicts
+
+-- The modules of these files have these right verdicts.
+pub record AreDecided (files : List File) (verdicts : List Verdict) : Type 0 where
+  pub all : Sources Source
+  pub sources : IsSources files all
+  pub as_many : length verdicts ≡ length files
+  pub right : paired files verdicts ≡ judged files all
 
 -- What is done with a report, by the answer: it is written whole and its status answered, or its first bytes are, and
 -- the count of faults tells why.

@@ -1,10 +1,10 @@
 //! The top call of the loader: from the words after a program's name and a folder to the report on its modules.
 #![tactic(auto)]
 
-pub mod assignment;
+mod alone;
 pub mod modules;
+mod reading;
 mod report;
 pub mod run;
 pub mod status;
-pub mod verdict;
 mod words;

@@ -1,76 +1,57 @@
-ghost use Rattle.std.specs.Prelude.{◌≡◌, ◌<◌, ◌≤◌, ℕ, IfOk, OnOk, OnErr, length, take, map, string_bytes};
+ghost use Rattle.std.specs.Prelude.{◌≡◌, ℕ, ◌≤◌, IfOk, OnOk, OnErr, length, take, map, string_bytes};
 ghost use Rattle.std.specs.Option.{ForSome};
 ghost use Rattle.outside.specs.Bytes.{Appends, Takes};
 ghost use Rattle.outside.specs.Faults.{CountsSink};
-ghost use Rattle.strict_top.specs.Reports.{verdict_line, report_of, is_refused};
-ghost use Rattle.strict_top.specs.Steps.{view_of};
+ghost use Rattle.module_load.specs.Folders.{file_of};
+ghost use Rattle.strict_top.specs.Reports.{report_of, verdict_line};
+ghost use Rattle.strict_top.specs.Steps.{paired};
 
-use crate::verdict::Verdict;
+use module_load::folder::ModuleFile;
+use module_load::strict_python::StrictPython;
+use module_load::verdict::Verdict;
 use outside::sink::{Sink, SinkFault};
+use registry_core::world::World;
 use std::alloc::{AllocError, Global};
-use std::fmt;
 
-/// A module with its verdict.
-#[derive(Debug, Drop)]
-pub(crate) struct Decided {
-    pub(crate) name: String,
-    pub(crate) verdict: Verdict,
-}
-
-impl Verdict {
-    pub(crate) fn is_refused(self) -> bool
-        ensures { result ≡ is_refused self }
-    {
-        matches!(self, Verdict::Refused(_))
-    }
-}
-
-impl fmt::Display for Verdict {
-    ghost use Rattle.std.specs.Prelude.{Some};
-    ghost use Rattle.strict_top.specs.Reports.{verdict_text};
-
-    ghost output = { λ verdict. Some (verdict_text verdict) };
-
-    fn fmt<W: fmt::Write>(&self, f: &mut fmt::Formatter<W>) -> fmt::Result {
-        match self {
-            Verdict::Published(globals) => write!(f, "published {globals}"),
-            Verdict::Plain => write!(f, "plain"),
-            Verdict::Refused(fault) => {
-                let line = fault.line;
-                let code = fault.code;
-                write!(f, "refused line {line} {code}")
-            }
-        }
-    }
-}
-
-/// Writes the report on the modules, a line after the other.
+/// Writes the report on the modules of these files, a line after the other.
 pub(crate) fn write_report<S: Sink>(
     alloc: Global,
     sink: &mut S,
-    decided: &[Decided],
+    files: &[ModuleFile],
+    world: &World<StrictPython>,
 ) -> Result<(), SinkFault>
-    requires { ForSome (S.room sink.old) (λ room. length (report_of (map view_of decided.now)).bytes ≤ room) }
+    requires each { length world.now ≡ length files.now }
+    requires few { length files.now ≤ 1024 }
+    requires room { ForSome (S.room sink.old) (λ room. length (report_of (paired (map file_of files.now) world.now)).bytes ≤ room) }
     ensures ok { OnOk result
-        (Appends (S.written sink.old) (S.written sink.new) (report_of (map view_of decided.now)).bytes) }
+        (Appends (S.written sink.old) (S.written sink.new) (report_of (paired (map file_of files.now) world.now)).bytes) }
     ensures err { OnErr result ((n : ℕ)
-        × Appends (S.written sink.old) (S.written sink.new) (take n (report_of (map view_of decided.now)).bytes)) }
+        × Appends (S.written sink.old) (S.written sink.new) (take n (report_of (paired (map file_of files.now) world.now)).bytes)) }
     ensures count { CountsSink result (S.faults sink.old) (S.faults sink.new) }
 {
-    for entry in decided {
-        let line = line_of(alloc, entry)?;
+    for (number, file) in files.iter().enumerate() {
+        let line = line_of(alloc, file.name.as_str(), world.verdict(number as u32))?;
         write_all(sink, line.as_bytes())?;
     }
     Ok(())
 }
 
-fn line_of(alloc: Global, decided: &Decided) -> Result<String, AllocError>
-    ensures { IfOk result (λ line.
-        string_bytes line ≡ verdict_line (string_bytes decided.now.name) decided.now.verdict) }
+/// The line of a module.
+fn line_of(alloc: Global, name: &str, verdict: &Verdict) -> Result<String, AllocError>
+    ensures { IfOk result (λ line. string_bytes line ≡ verdict_line name.now verdict.now) }
 {
-    let name = decided.name.as_str();
-    let verdict = decided.verdict;
-    format!(in alloc; "module {name} {verdict}\n")
+    match verdict {
+        Verdict::Published(globals) => {
+            let count = globals.len();
+            format!(in alloc; "module {name} published {count}\n")
+        }
+        Verdict::Plain => format!(in alloc; "module {name} plain\n"),
+        Verdict::Refused(fault) => {
+            let line = fault.line;
+            let code = fault.code;
+            format!(in alloc; "module {name} refused line {line} {code}\n")
+        }
+    }
 }
 
 /// Writes all of the bytes: what a write leaves of them goes into further writes.

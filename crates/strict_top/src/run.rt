@@ -1,24 +1,30 @@
-ghost use Rattle.std.specs.Prelude.{◌≡◌, ◌≢◌, ◌≤◌, ◌⊎◌, IfSome, length, map, string_bytes};
+ghost use Rattle.std.specs.Prelude.{◌≡◌, ◌≢◌, ◌≤◌, ◌⊎◌, IfOk, length, map, string_bytes};
 ghost use Rattle.std.specs.Option.{ForSome};
 ghost use Rattle.outside.specs.Bytes.{Appends};
 ghost use Rattle.outside.specs.Faults.{HasRisen};
-ghost use Rattle.strict_top.specs.Reports.{Report, bad_words, report_of};
-ghost use Rattle.strict_top.specs.Runs.{report_of_run, IsReport, HasEnded, WritesFront, WritesReport};
-ghost use Rattle.strict_top.specs.Steps.{Writes, view_of};
+ghost use Rattle.module_load.specs.Folders.{file_of};
+ghost use Rattle.strict_top.specs.Reports.{Report, bad_words, too_large, report_of};
+ghost use Rattle.strict_top.specs.Runs.{HasEnded, IsReport, IsTold, OneReport, WritesFront, WritesReport};
+ghost use Rattle.strict_top.specs.Steps.{AreDecided, Writes, paired};
 
-use crate::modules::decide_all;
-use crate::report::{Decided, write_all, write_report};
+use crate::alone::decide_alone;
+use crate::reading::{Found, read_modules};
+use crate::report::{write_all, write_report};
 use crate::status::Status;
 use crate::words::directory;
+use module_load::folder::{ModuleFile, sources_of};
+use module_load::strict_python::StrictPython;
 use outside::folder::{Folder, FolderFault};
 use outside::sink::{Sink, SinkFault};
-use std::alloc::Global;
+use registry_core::world::World;
+use std::alloc::{AllocError, Global};
 
-/// Decides the modules of the directory that the words name, and writes the report on them.
+/// Decides the modules of the directory that the words name, each after those that it needs, and writes the report on them.
 ///
 /// The words are those after the program's name. They are taken where there is one, and it begins neither with `-`
 /// nor with `gen:`. The report has a line for each module, in the order of the bytes of their names, or else the one
-/// line `bad words`. Each line is a piece for the sink, and what a write leaves of it goes into further writes.
+/// line `bad words`. Each line is a piece for the sink, and what a write leaves of it goes into further writes. A folder of more than
+/// 1,024 modules, or of more than 33,554,432 bytes in them, has no line.
 pub fn run_one<F: Folder, S: Sink>(
     alloc: Global,
     words: &[String],
@@ -30,18 +36,23 @@ pub fn run_one<F: Folder, S: Sink>(
         → IsReport (map string_bytes words.now) (F.told folder.old) report
         → length report.bytes ≤ room) }
 
-    // Where nothing fails and memory is found, exactly the report is written, and its status is the answer.
-    ensures exact { IfSome (report_of_run (map string_bytes words.now) (F.told folder.old)) (λ report.
-        ¬ (HasRisen (F.faults folder.old) (F.faults folder.new))
+    // Where the directory is told, nothing fails and memory is found, exactly its report is written, and its status is the answer.
+    ensures exact { IsTold (map string_bytes words.now) (F.told folder.old)
+        → (report : Report) → IsReport (map string_bytes words.now) (F.told folder.old) report
+        → ¬ (HasRisen (F.faults folder.old) (F.faults folder.new))
         → ¬ (HasRisen (S.faults sink.old) (S.faults sink.new))
         → result ≢ Status.OutOfMemory
-        → Appends (S.written sink.old) (S.written sink.new) report.bytes × (result ≡ report.status)) }
+        → Appends (S.written sink.old) (S.written sink.new) report.bytes × (result ≡ report.status) }
 
     // A run that ends has written a whole report and answers its status, also where the folder tells nothing.
     ensures ended { HasEnded result
         → WritesReport (map string_bytes words.now) (F.told folder.old) (S.written sink.old) (S.written sink.new) result }
     ensures ended_faultless { HasEnded result
         → (F.faults folder.new ≡ F.faults folder.old) × (S.faults sink.new ≡ S.faults sink.old) }
+
+    // The folder is too large, and the sink isn't called.
+    ensures too_large { result ≡ Status.TooLarge
+        → IsReport (map string_bytes words.now) (F.told folder.old) too_large × (sink.new ≡ sink.old) }
 
     // The folder failed: its count has risen, and the sink isn't called.
     ensures folder_fault { result ≡ Status.FolderFault
@@ -64,12 +75,22 @@ pub fn run_one<F: Folder, S: Sink>(
     let Some(dir) = directory(words) else {
         return report_bad_words(sink);
     };
-    match decide_all(alloc, folder, dir) {
-        Ok(decided) => report_decided(alloc, sink, &decided),
-        Err(FolderFault::Failed) => Status::FolderFault,
-        Err(FolderFault::Memory) => Status::OutOfMemory,
-    }
+    let files = match read_modules(alloc, folder, dir) {
+        Ok(Found::Modules(files)) => files,
+        Ok(Found::TooLarge) => return Status::TooLarge,
+        Err(FolderFault::Failed) => return Status::FolderFault,
+        Err(FolderFault::Memory) => return Status::OutOfMemory,
+    };
+    let Ok(world) = decide_files(alloc, &files) else {
+        return Status::OutOfMemory;
+    };
+    report_world(alloc, sink, &files, &world)
 }
+
+/// The law of reports: what is told has at most one.
+pub fn one_report()
+    ensures { OneReport }
+{}
 
 /// Writes the report of words that aren't taken.
 fn report_bad_words<S: Sink>(sink: &mut S) -> Status
@@ -84,24 +105,43 @@ fn report_bad_words<S: Sink>(sink: &mut S) -> Status
     }
 }
 
-/// Writes the report on modules.
-fn report_decided<S: Sink>(alloc: Global, sink: &mut S, decided: &[Decided]) -> Status
-    requires { ForSome (S.room sink.old) (λ room. length (report_of (map view_of decided.now)).bytes ≤ room) }
-    ensures { Writes (report_of (map view_of decided.now)) (S.written sink.old) (S.written sink.new)
+/// What is right to decide of the modules of these files.
+fn decide_files(alloc: Global, files: &[ModuleFile]) -> Result<World<StrictPython>, AllocError>
+    requires { length files.now ≤ 1024 }
+    ensures { IfOk result (λ world. AreDecided (map file_of files.now) world) }
+{
+    let all = sources_of(alloc, files)?;
+    decide_alone(alloc, all, &StrictPython { alloc })
+}
+
+/// Writes the report on the modules of these files, of which this is decided.
+fn report_world<S: Sink>(
+    alloc: Global,
+    sink: &mut S,
+    files: &[ModuleFile],
+    world: &World<StrictPython>,
+) -> Status
+    requires each { length world.now ≡ length files.now }
+    requires few { length files.now ≤ 1024 }
+    requires room { ForSome (S.room sink.old) (λ room. length (report_of (paired (map file_of files.now) world.now)).bytes ≤ room) }
+    ensures { Writes (report_of (paired (map file_of files.now) world.now)) (S.written sink.old) (S.written sink.new)
         (S.faults sink.old) (S.faults sink.new) result }
 {
-    match write_report(alloc, sink, decided) {
-        Ok(()) => status_of(decided),
+    match write_report(alloc, sink, files, world) {
+        Ok(()) => status_of(files, world),
         Err(SinkFault::Failed) => Status::SinkFault,
         Err(SinkFault::Memory) => Status::OutOfMemory,
     }
 }
 
 /// Whether one of the modules is refused.
-fn status_of(decided: &[Decided]) -> Status
-    ensures { result ≡ (report_of (map view_of decided.now)).status }
+fn status_of(files: &[ModuleFile], world: &World<StrictPython>) -> Status
+    requires each { length world.now ≡ length files.now }
+    requires few { length files.now ≤ 1024 }
+    ensures { result ≡ (report_of (paired (map file_of files.now) world.now)).status }
 {
-    if decided.iter().any(|module| module.verdict.is_refused()) {
+    let mut modules = 0..files.len() as u32;
+    if modules.any(|module| world.verdict(module).is_refused()) {
         Status::Refused
     } else {
         Status::Done
