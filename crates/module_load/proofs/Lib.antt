@@ -15,3 +15,4 @@ pub mod RightOnes
 pub mod RightFiles
 pub mod Loading
 pub mod ExamplesOfDecisions
+pub mod Crossing

@@ -1,8 +1,10 @@
 ghost use Rattle.std.specs.Prelude.{◌≡◌, ◌≢◌, ◌≤◌, ◌⊎◌, IfOk, length, map, string_bytes};
+ghost use Rattle.std.specs.List.{list_any};
 ghost use Rattle.std.specs.Option.{ForSome};
 ghost use Rattle.outside.specs.Bytes.{Appends};
 ghost use Rattle.outside.specs.Faults.{HasRisen};
 ghost use Rattle.module_load.specs.Folders.{file_of};
+ghost use Rattle.module_load.specs.Right.{is_refused};
 ghost use Rattle.strict_top.specs.Reports.{Report, bad_words, too_large, report_of};
 ghost use Rattle.strict_top.specs.Runs.{HasEnded, IsReport, IsTold, OneReport, WritesFront, WritesReport};
 ghost use Rattle.strict_top.specs.Steps.{AreDecided, Writes, paired};
@@ -134,18 +136,30 @@ fn report_world<S: Sink>(
     }
 }
 
-/// Whether one of the modules is refused.
+/// The status of a report on these modules.
 fn status_of(files: &[ModuleFile], world: &World<StrictPython>) -> Status
     requires each { length world.now ≡ length files.now }
     requires few { length files.now ≤ 1024 }
     ensures { result ≡ (report_of (paired (map file_of files.now) world.now)).status }
 {
-    let mut modules = 0..files.len() as u32;
-    if modules.any(|module| world.verdict(module).is_refused()) {
+    if some_refused(world, files.len() as u32) {
         Status::Refused
     } else {
         Status::Done
     }
+}
+
+/// Whether one of the modules is refused.
+fn some_refused(world: &World<StrictPython>, count: u32) -> bool
+    requires { length world.now ≡ count }
+    ensures { result ≡ list_any is_refused world.now }
+{
+    for module in 0..count {
+        if world.verdict(module).is_refused() {
+            return true;
+        }
+    }
+    false
 }
 
 #[cfg(test)]
