@@ -5,11 +5,11 @@ half of it. It builds the program below over a copy of the crates that it needs.
 import re, sys
 from measuring import printed
 
-BELOW = ["lists", "py_values", "py_tree", "py_lexer", "py_phrases", "py_expr", "py_blocks", "symbols", "name_rows"]
+BELOW = ["lists", "py_values", "py_tree", "py_lexer", "py_phrases", "py_expr", "py_blocks", "symbols", "import_graph", "registry_core", "module_load"]
 PROGRAM = r"""//! Reads modules on standard input, with `$` between them, and prints the least microseconds that the names of each took.
 #![tactic(auto)]
 
-use name_rows::reading::read;
+use module_load::preparing::parse;
 use py_tree::text::Text;
 use std::alloc::{AllocError, Global};
 use std::io::{self, Read};
@@ -31,7 +31,7 @@ fn main(rt: HostRuntime) -> io::Result<()> {
     let _ = rt.reader().read_to_end(&mut text)?;
     let outer = outer(alloc)?;
     for module in text.split(|byte| *byte == b'$') {
-        let Ok(tree) = read(alloc, module) else {
+        let Ok(tree) = parse(alloc, module) else {
             return Ok(());
         };
         let mut least = u128::MAX;

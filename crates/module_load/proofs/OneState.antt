@@ -49,17 +49,17 @@ one_line_fault s line e g (inl a) (inr b) = absurd (a.1 b.1.form b.1.spelled)
 one_line_fault s line e g (inr a) (inl b) = absurd (b.1 a.1.form a.1.spelled)
 one_line_fault s line e g (inr a) (inr b) = a.0 ∙ sym b.0
 
-one_rows : {lines : List LogicalLine} {rows other : Rows} → Forms lines rows → Forms lines other → rows ≡ other
+pub one_rows : {lines : List LogicalLine} {rows other : Rows} → Forms lines rows → Forms lines other → rows ≡ other
 one_rows no_line no_line = refl
 one_rows (a_line {l = l} {f = f} {rows = rows} s n d) (a_line {f = g} t m e) =
     ap (λ h. row l.indent l.line h ∷ rows) (one_form l.tokens f g s t) ∙ ap (λ more. row l.indent l.line g ∷ more) (one_rows d e)
 
-forms_or_fault : {lines : List LogicalLine} {rows : Rows} {e : Fault} → Forms lines rows → FirstFault lines e → ⊥
+pub forms_or_fault : {lines : List LogicalLine} {rows : Rows} {e : Fault} → Forms lines rows → FirstFault lines e → ⊥
 forms_or_fault no_line why = elim why [ ]
 forms_or_fault (a_line {l = l} {f = f} s n d) (here {f = e} why) = form_or_fault l.tokens l.line f e s n why
 forms_or_fault (a_line s n d) (later t m e) = forms_or_fault d e
 
-one_first : {lines : List LogicalLine} {e g : Fault} → FirstFault lines e → FirstFault lines g → e ≡ g
+pub one_first : {lines : List LogicalLine} {e g : Fault} → FirstFault lines e → FirstFault lines g → e ≡ g
 one_first (here {l = l} {f = e} a) (here {f = g} b) = one_line_fault l.tokens l.line e g a b
 one_first (here {l = l} {f = e} a) (later {g = f} s n d) = absurd (form_or_fault l.tokens l.line f e s n a)
 one_first (later {l = l} {g = f} s n d) (here {f = e} b) = absurd (form_or_fault l.tokens l.line f e s n b)

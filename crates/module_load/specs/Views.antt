@@ -1,17 +1,12 @@
 -- No definition of the language: what the parts of `prepare` and `decide` answer.
 use Rattle.std.specs.Prelude.{ℕ, if◌then◌else◌, List, Result, Ok, Err}
 use Rattle.py_tree.specs.Syntax.{Text, Statements}
-use Rattle.py_tree.specs.Joined.{module_of}
 use Rattle.py_tree.specs.declared.fault.Fault.{Fault}
 use Rattle.py_tree.specs.declared.fault.Stop.{Stop}
 use Rattle.py_tree.specs.declared.fault.Stop.TheVariants as stop
-use Rattle.py_tree.specs.declared.statement.Module.{Module}
 use Rattle.py_lexer.specs.declared.token.LogicalLine.{LogicalLine}
-use Rattle.py_lexer.specs.Lexing.{Lexes}
 use Rattle.py_blocks.specs.declared.form_line.FormLine.{FormLine}
 use Rattle.py_blocks.specs.Rows.{rows_of}
-use Rattle.py_blocks.specs.Blocks.{Rows, ModuleAt}
-use Rattle.py_blocks.specs.Faults.{Shallow, FaultIn}
 use Rattle.symbols.specs.Names.{with_name}
 use Rattle.symbols.specs.declared.outer.OuterBinding.{OuterBinding}
 use Rattle.module_load.specs.declared.source.SourceState.{SourceState}
@@ -27,26 +22,6 @@ abbrev pub IsFormed : List LogicalLine → Result (List FormLine) Stop → Type 
 IsFormed lines (Ok forms) = Forms lines (rows_of forms)
 IsFormed lines (Err (stop.Fault f)) = FirstFault lines f
 IsFormed lines (Err (stop.Memory error)) = Unit {0}
-
--- the bytes spell a module
-pub record Spells (bytes : List ℕ) (body : Statements) : Type 0 where
-  pub lines : List LogicalLine
-  pub rows : Rows
-  pub lexed : Lexes bytes (Ok lines)
-  pub formed : Forms lines rows
-  pub built : ModuleAt rows body
-  pub shallow : Shallow rows
-
--- why they spell none
-pub data Spoilt (bytes : List ℕ) : Fault → Type 0 where
-  by_text : {f : Fault} → Lexes bytes (Err f) → Spoilt bytes f
-  by_line : {lines : List LogicalLine} {f : Fault} → Lexes bytes (Ok lines) → FirstFault lines f → Spoilt bytes f
-  by_block : {lines : List LogicalLine} {rows : Rows} {f : Fault} → Lexes bytes (Ok lines) → Forms lines rows → FaultIn rows f.line f.code → Spoilt bytes f
-
-abbrev pub IsParsed : List ℕ → Result Module Stop → Type 0
-IsParsed bytes (Ok made) = Spells bytes (module_of made)
-IsParsed bytes (Err (stop.Fault f)) = Spoilt bytes f
-IsParsed bytes (Err (stop.Memory error)) = Unit {0}
 
 -- the state of the bytes
 abbrev pub IsRead : List ℕ → Result SourceState Stop → Type 0

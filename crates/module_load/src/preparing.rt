@@ -4,7 +4,8 @@ ghost use Rattle.py_tree.specs.Lawful.{lawful};
 ghost use Rattle.py_tree.specs.declared.fault.Stop.TheVariants as stop;
 ghost use Rattle.module_load.specs.Preparing.{Prepares, fault};
 ghost use Rattle.module_load.specs.Sources.{State, lawful_state, state_of};
-ghost use Rattle.module_load.specs.Views.{IsFormed, IsParsed, IsRead};
+ghost use Rattle.module_load.specs.Parsing.{IsParsed, OnlyParse};
+ghost use Rattle.module_load.specs.Views.{IsFormed, IsRead};
 
 use crate::source::{Source, SourceState};
 use crate::top_part::is_marked;
@@ -72,9 +73,12 @@ fn refused(line: u32, code: Code) -> Stop
     Stop::Fault(Fault { line, code })
 }
 
-/// The module that the bytes spell.
-fn parse(alloc: Global, bytes: &[u8]) -> Result<Module, Stop>
+/// The module that the bytes spell, or the first fault of their tokens, lines and blocks. Its tree is lawful.
+pub fn parse(alloc: Global, bytes: &[u8]) -> Result<Module, Stop>
+    // What is answered is so.
     ensures so { IsParsed bytes.now result }
+    // What is so is answered.
+    ensures exact { OnlyParse bytes.now result }
     ensures lawful { IfOk result (λ made. lawful (module_of made) ≡ true) }
 {
     let lines = lex(alloc, bytes)?;

@@ -1,11 +1,10 @@
-//! The module that a text spells, through all layers below, and the worked rows of names, which are tests alone.
+//! The worked rows of names: what the names of a module's text are, or their first fault. It has tests alone.
 #![tactic(auto)]
 
 #[cfg(test)]
 mod copies;
 #[cfg(test)]
 mod faults;
-pub mod reading;
 #[cfg(test)]
 mod resolving;
 #[cfg(test)]

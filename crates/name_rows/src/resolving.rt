@@ -1,4 +1,4 @@
-use crate::reading::read;
+use module_load::preparing::parse;
 use py_tree::expression::Texts;
 use py_tree::fault::Stop;
 use py_tree::text::Text;
@@ -11,7 +11,7 @@ use symbols::resolved::Resolved;
 
 /// The names of the module that the text spells. It imports as `m` a module with the class `C`, and the class `D`.
 pub(crate) fn names(alloc: Global, text: &str) -> Result<Resolved, Stop> {
-    let tree = read(alloc, text.as_bytes())?;
+    let tree = parse(alloc, text.as_bytes())?;
     let outer = outer(alloc)?;
     resolve(alloc, &tree, &outer)
 }

@@ -1,12 +1,7 @@
 use crate::answer::fault_in;
-use py_blocks::building::build;
-use py_blocks::form_line::{FormLine, FormLines};
-use py_expr::line::line_form;
-use py_lexer::lex::lex;
-use py_lexer::token::LogicalLine;
+use module_load::preparing::parse;
 use py_tree::code::Code;
-use py_tree::fault::{Fault, Stop};
-use py_tree::statement::Module;
+use py_tree::fault::Fault;
 use std::alloc::{AllocError, AllocGlobal, Global};
 use std::process::Abort;
 use std::test::Fail;
@@ -59,28 +54,10 @@ fn push_line(text: &mut String, line: &str) -> Result<(), AllocError> {
     text.push_str("\n")
 }
 
-fn forms_of(alloc: Global, lines: &[LogicalLine]) -> Result<FormLines, Stop> {
-    let mut forms = FormLines::new(alloc);
-    for line in lines {
-        forms.push(FormLine {
-            indent: line.indent,
-            line: line.line,
-            form: line_form(alloc, line)?,
-        })?;
-    }
-    Ok(forms)
-}
-
-fn module_of(alloc: Global, text: &str) -> Result<Module, Stop> {
-    let lines = lex(alloc, text.as_bytes())?;
-    let forms = forms_of(alloc, lines.as_slice())?;
-    build(alloc, forms)
-}
-
 /// The fault of a row, if there is one.
 fn fault(alloc: Global, row: &str) -> Result<Option<Fault>, AllocError> {
     let text = text_of(alloc, row)?;
-    fault_in(module_of(alloc, &text))
+    fault_in(parse(alloc, text.as_bytes()))
 }
 
 fn push_indented(text: &mut String, indent: u32, line: &str) -> Result<(), AllocError> {
@@ -97,12 +74,12 @@ fn nested(alloc: Global, heads: u32, statement: &str) -> Result<Option<Fault>, A
         push_indented(&mut text, indent, "if None:\n")?;
     }
     push_indented(&mut text, heads, statement)?;
-    fault_in(module_of(alloc, &text))
+    fault_in(parse(alloc, text.as_bytes()))
 }
 
 #[test]
 fn a_function_and_a_statement_are_two(rt: HostRuntime) -> Result<(), Fail> {
-    let module = module_of(rt.alloc(), "def x(a):\n    return\npass\n")?;
+    let module = parse(rt.alloc(), b"def x(a):\n    return\npass\n")?;
     assert_eq!(rt; module.body.len(), 2);
     Ok(())
 }
