@@ -57,8 +57,11 @@ fn decide_both<N: Naming<StrictPython, Source>, R: Abort>(
     requires sources { N.sources ≡ Some (arc_value all.now) }
 {
     let mut room = Imports::with_room(alloc, all.graph.count())?;
-    let (mut registry, mut share) =
-        Registry::<StrictPython, N>::open(alloc, Arc::try_clone(all)?, blank)?;
+    let (mut registry, mut share) = Registry::<StrictPython, N>::open(
+        alloc,
+        Arc::try_clone(all)?,
+        blank,
+    )?;
     decide_each(alloc, &mut registry, &mut share, &**all, loads, &mut room)?;
     assert_eq!(rt;
         registry.history(),

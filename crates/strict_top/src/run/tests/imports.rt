@@ -11,14 +11,28 @@ fn publishes_the_names_that_imports_bind(rt: HostRuntime) -> Result<(), Fail> {
         ("import __strict__\nfrom b import (Y, Y as Z,)\n", 2),
         ("import __strict__\nfrom b import b as c\n", 1),
         ("import __strict__\nfrom __host__ import H, I as J\n", 2),
-        ("import __strict__\nfrom typing import Optional, Any as A\nX = 1\n", 1),
-        ("import __static__\nfrom __static__ import int64, cbool, box, cast\n", 0),
-        ("'''d'''\nfrom __future__ import annotations\nimport __static__\n", 0),
+        (
+            "import __strict__\nfrom typing import Optional, Any as A\nX = 1\n",
+            1,
+        ),
+        (
+            "import __static__\nfrom __static__ import int64, cbool, box, cast\n",
+            0,
+        ),
+        (
+            "'''d'''\nfrom __future__ import annotations\nimport __static__\n",
+            0,
+        ),
     ] {
-        let report = format!(in alloc; "module a published {count}\nmodule b published 2\nmodule c published 0\n")?;
+        let report = format!(in alloc;
+            "module a published {count}\nmodule b published 2\nmodule c published 0\n"
+        )?;
         let files = [
             ("a.py", text.as_bytes()),
-            ("b.py", b"import __strict__\nimport c as b\nY = 2\n".as_slice()),
+            (
+                "b.py",
+                b"import __strict__\nimport c as b\nY = 2\n".as_slice(),
+            ),
             ("c.py", MARKER),
         ];
         assert_report(&rt, &files, Status::Done, &report)?;
@@ -48,7 +62,9 @@ fn refuses_imports(rt: HostRuntime) -> Result<(), Fail> {
         ("import p, r, zz", "N12"),
     ] {
         let text = format!(in alloc; "import __strict__\n{line}\n")?;
-        let report = format!(in alloc; "module a refused line 2 {code}\nmodule b published 1\nmodule p plain\nmodule r refused line 2 E99\n")?;
+        let report = format!(in alloc;
+            "module a refused line 2 {code}\nmodule b published 1\nmodule p plain\nmodule r refused line 2 E99\n"
+        )?;
         let files = [
             ("a.py", text.as_bytes()),
             ("b.py", b"import __strict__\nY = 2\n".as_slice()),

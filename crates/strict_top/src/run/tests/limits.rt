@@ -15,45 +15,53 @@ fn refuses_a_file_above_the_greatest_size(rt: HostRuntime) -> Result<(), Fail> {
     Ok(())
 }
 
-#[test]
-fn runs_fifty_thousand_statements_and_no_more(rt: HostRuntime) -> Result<(), Fail> {
-    let mut text = Vec::new(rt.alloc());
-    for _ in 1..50_000 {
+/// So many lines that bind a name.
+fn assignments(alloc: Global, count: u32) -> Result<Vec<u8>, AllocError> {
+    let mut text = Vec::new(alloc);
+    for _ in 0..count {
         text.extend_from_slice(b"X=1\n")?;
-    }
-    assert_behind_marker(&rt, &text, "published 1")?;
-    text.extend_from_slice(b"X=1\n")?;
-    assert_behind_marker(&rt, &text, "refused line 50001 S34")?;
-    Ok(())
-}
-
-/// The greatest file that has a marker and then one character alone.
-fn filled(alloc: Global, character: &str) -> Result<Vec<u8>, AllocError> {
-    let mut text = Vec::from_slice(alloc, MARKER)?;
-    while text.len() + character.len() <= 1_048_576 {
-        text.extend_from_slice(character.as_bytes())?;
     }
     Ok(text)
 }
 
+// The marker is a statement too.
 #[test]
-fn decides_a_large_file_of_one_character(rt: HostRuntime) -> Result<(), Fail> {
+fn runs_fifty_thousand_statements(rt: HostRuntime) -> Result<(), Fail> {
+    let text = assignments(rt.alloc(), 49_999)?;
+    assert_behind_marker(&rt, &text, "published 1")?;
+    Ok(())
+}
+
+#[test]
+fn runs_no_statement_behind_fifty_thousand(rt: HostRuntime) -> Result<(), Fail> {
+    let text = assignments(rt.alloc(), 50_000)?;
+    assert_behind_marker(&rt, &text, "refused line 50001 S34")?;
+    Ok(())
+}
+
+/// The most bytes that a file may have behind its marker.
+const REST: usize = 1_048_558;
+
+#[test]
+fn publishes_large_files_of_one_character(rt: HostRuntime) -> Result<(), Fail> {
+    for character in [b' ', b'\t', b'#'] {
+        let text = vec![in rt.alloc(); character; REST]?;
+        assert_behind_marker(&rt, &text, "published 0")?;
+    }
+    Ok(())
+}
+
+#[test]
+fn refuses_large_files_of_one_character(rt: HostRuntime) -> Result<(), Fail> {
     for (character, verdict) in [
-        (" ", "published 0"),
-        ("\t", "published 0"),
-        ("\n", "published 0"),
-        ("#", "published 0"),
-        ("(", "refused line 2 E08"),
-        ("'", "refused line 2 E04"),
-        ("\\", "refused line 2 E04"),
-        ("7", "refused line 2 E09"),
-        ("0", "refused line 2 E99"),
-        ("_", "refused line 2 N19"),
-        ("é", "refused line 2 E99"),
-        ("\0", "refused line 2 E04"),
+        (b'(', "refused line 2 E08"),
+        (b'\'', "refused line 2 E04"),
+        (b'\\', "refused line 2 E04"),
+        (b'7', "refused line 2 E09"),
+        (b'_', "refused line 2 N19"),
     ] {
-        let text = filled(rt.alloc(), character)?;
-        assert_verdict(&rt, &text, verdict)?;
+        let text = vec![in rt.alloc(); character; REST]?;
+        assert_behind_marker(&rt, &text, verdict)?;
     }
     Ok(())
 }

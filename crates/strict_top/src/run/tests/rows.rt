@@ -11,7 +11,11 @@ struct Row {
 
 /// Folders of several modules, and the smallest.
 const FOLDERS: [Row; 9] = [
-    Row { files: &[], status: Status::Done, report: "" },
+    Row {
+        files: &[],
+        status: Status::Done,
+        report: "",
+    },
     Row {
         files: &[("a.py", b"import __strict__\nX = 1\n")],
         status: Status::Done,
@@ -133,7 +137,10 @@ fn reports_the_first_phase_then_the_least_line_then_the_least_code(
         ("else: pass\nX = 1 2\n", "refused line 3 E05"),
         ("import zz\nelse: pass\n", "refused line 3 E07"),
         // Imports before names, names before what isn't built, and that before fuel.
-        ("from __host__ import H as print\nimport zz\n", "refused line 3 N12"),
+        (
+            "from __host__ import H as print\nimport zz\n",
+            "refused line 3 N12",
+        ),
         ("from typing import zz\nimport zz\n", "refused line 2 N15"),
         ("pass\nprint = 1\n", "refused line 3 N19"),
         ("pass\nimport a\n", "refused line 3 N18"),

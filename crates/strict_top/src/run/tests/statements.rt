@@ -8,8 +8,14 @@ fn decides_a_module_by_its_marker(rt: HostRuntime) -> Result<(), Fail> {
         ("import  __strict__ # c\n", "published 0"),
         ("import __strict__\r\n", "published 0"),
         ("\u{feff}import __strict__\n", "published 0"),
-        ("'''d'''\nfrom __future__ import annotations\nimport __strict__\n", "published 0"),
-        ("import __strict__\nimport __static__\nX = 1\n", "published 1"),
+        (
+            "'''d'''\nfrom __future__ import annotations\nimport __strict__\n",
+            "published 0",
+        ),
+        (
+            "import __strict__\nimport __static__\nX = 1\n",
+            "published 1",
+        ),
         ("X=1\n", "plain"),
         (" import __strict__\n", "plain"),
         ("import __strict__, b\n", "plain"),
