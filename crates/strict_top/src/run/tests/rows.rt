@@ -10,7 +10,7 @@ struct Row {
 }
 
 /// Folders of several modules, and the smallest.
-const FOLDERS: [Row; 9] = [
+const FOLDERS: [Row; 10] = [
     Row {
         files: &[],
         status: Status::Done,
@@ -51,6 +51,12 @@ const FOLDERS: [Row; 9] = [
         status: Status::Refused,
         report: "module a refused line 2 E05\n",
     },
+    // The marker isn't in its place.
+    Row {
+        files: &[("a.py", b"X = 1\nimport __strict__\n")],
+        status: Status::Refused,
+        report: "module a refused line 2 E10\n",
+    },
     // A name that the imported module doesn't have.
     Row {
         files: &[
@@ -88,7 +94,7 @@ fn reports_folders(rt: HostRuntime) -> Result<(), Fail> {
 }
 
 /// What stands behind a marker, and where it is refused.
-const FAULTS: [(&'static [u8], &'static str); 14] = [
+const FAULTS: [(&'static [u8], &'static str); 13] = [
     (b"if True:\n\tX = 1\n", "refused line 3 E03"),
     (b"X = 1.5\n", "refused line 2 E04"),
     (b"X = 9223372036854775808\n", "refused line 2 E09"),
@@ -105,8 +111,6 @@ const FAULTS: [(&'static [u8], &'static str); 14] = [
         b"class C:\n    def __init__(self):\n        self.m = 1\n    def m(self): pass\n",
         "refused line 2 N11",
     ),
-    // Of two faults in one phase the one on the lesser line, and in two phases that of the earlier.
-    (b"from zz import X\nX = 1\nX = 1.5\n", "refused line 4 E04"),
 ];
 
 #[test]

@@ -20,7 +20,6 @@ fn decides_a_module_by_its_marker(rt: HostRuntime) -> Result<(), Fail> {
         (" import __strict__\n", "plain"),
         ("import __strict__, b\n", "plain"),
         ("\u{feff}\u{feff}import __strict__\n", "plain"),
-        ("X = 1\nimport __strict__\n", "refused line 2 E10"),
         ("import zz\nimport __strict__\n", "refused line 2 E10"),
         ("'''\nimport __strict__\n'''\n", "refused line 2 E10"),
         ("X = 1.5\nimport __strict__\n", "refused line 1 E04"),
