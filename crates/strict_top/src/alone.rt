@@ -130,3 +130,6 @@ fn decide<L: Loads, N: Naming<L, L::Source>>(
     }
     Ok(())
 }
+
+#[cfg(test)]
+mod tests;

@@ -1,3 +1,8 @@
+mod imports;
+mod limits;
+mod rows;
+mod statements;
+
 use super::run_one;
 use crate::status::Status;
 use outside::memory_folder::MemoryFolder;
@@ -10,31 +15,39 @@ use std::test::Fail;
 /// A module of a marker alone.
 const MARKER: &[u8] = b"import __strict__\n";
 
-/// The directory `d` with files of these names and bytes.
-fn directory(alloc: Global, files: &[(&str, &[u8])]) -> Result<DirRow, AllocError> {
-    let mut rows = FileList::new(alloc);
-    for (name, bytes) in files {
-        rows.push(FileRow {
-            name: Bytes::from_slice(alloc, name.as_bytes())?,
-            bytes: Bytes::from_slice(alloc, bytes)?,
-        })?;
-    }
-    Ok(DirRow {
-        name: Bytes::from_slice(alloc, b"d")?,
-        files: rows,
+/// A file of this name and these bytes.
+fn file(alloc: Global, name: &str, bytes: &[u8]) -> Result<FileRow, AllocError> {
+    Ok(FileRow {
+        name: Bytes::from_slice(alloc, name.as_bytes())?,
+        bytes: Bytes::from_slice(alloc, bytes)?,
     })
 }
 
-/// A folder of the directory `d` alone, which fails at the calls of these numbers.
+/// A folder of the directory `d` alone, with these files. It fails at the calls of these numbers.
+fn folder_of(
+    rt: &(impl Abort + AllocGlobal),
+    files: FileList,
+    failing: &[u64],
+) -> Result<MemoryFolder, AllocError> {
+    let alloc = rt.alloc();
+    let mut dirs = DirList::new(alloc);
+    let name = Bytes::from_slice(alloc, b"d")?;
+    dirs.push(DirRow { name, files })?;
+    assert!(rt; MemoryFolder::takes(dirs.as_slice()));
+    Ok(MemoryFolder::new(dirs, CallList::from_slice(alloc, failing)?))
+}
+
+/// A folder of the directory `d` alone, with files of these names and bytes. It fails at the calls of these numbers.
 fn folder(
     rt: &(impl Abort + AllocGlobal),
     files: &[(&str, &[u8])],
     failing: &[u64],
 ) -> Result<MemoryFolder, AllocError> {
-    let mut dirs = DirList::new(rt.alloc());
-    dirs.push(directory(rt.alloc(), files)?)?;
-    assert!(rt; MemoryFolder::takes(dirs.as_slice()));
-    Ok(MemoryFolder::new(dirs, CallList::from_slice(rt.alloc(), failing)?))
+    let mut list = FileList::new(rt.alloc());
+    for (name, bytes) in files {
+        list.push(file(rt.alloc(), name, bytes)?)?;
+    }
+    folder_of(rt, list, failing)
 }
 
 /// A sink that takes 1,000 bytes at once and never fails.
@@ -81,92 +94,30 @@ fn assert_report(
 fn assert_verdict(
     rt: &(impl Abort + AllocGlobal),
     text: &[u8],
-    status: Status,
     verdict: &str,
 ) -> Result<(), AllocError> {
     let report = format!(in rt.alloc(); "module a {verdict}\n")?;
-    assert_report(rt, &[("a.py", text)], status, &report)
+    assert_report(rt, &[("a.py", text)], status_of(verdict), &report)
 }
 
-#[test]
-fn decides_a_module_by_its_marker(rt: HostRuntime) -> Result<(), Fail> {
-    for (text, status, verdict) in [
-        ("import __static__", Status::Done, "published 0"),
-        (
-            "import __strict__\nX = 1\nX = 2\n",
-            Status::Done,
-            "published 1",
-        ),
-        ("X = 1\n", Status::Done, "plain"),
-        (" import __strict__\n", Status::Done, "plain"),
-        (
-            "import __strict__ # c\n",
-            Status::Refused,
-            "refused line 1 E99",
-        ),
-        (
-            "import __strict__\r\n",
-            Status::Refused,
-            "refused line 1 E99",
-        ),
-        (
-            "\u{feff}import __strict__\n",
-            Status::Refused,
-            "refused line 1 E99",
-        ),
-        (
-            "X = 1\nimport __strict__\n",
-            Status::Refused,
-            "refused line 1 E99",
-        ),
-    ] {
-        assert_verdict(&rt, text.as_bytes(), status, verdict)?;
+/// The status of a folder whose one module has that verdict.
+fn status_of(verdict: &str) -> Status {
+    if verdict.starts_with("refused") {
+        Status::Refused
+    } else {
+        Status::Done
     }
-    Ok(())
 }
 
-#[test]
-fn publishes_names_bound_to_integer_literals(rt: HostRuntime) -> Result<(), Fail> {
-    for line in [
-        "X = 1\n",
-        "X = 9223372036854775807\n",
-        "X = 00\n",
-        "_ = 1\n",
-        "_x1 = 0\n",
-        "__X = 1\n",
-        "X = 1",
-    ] {
-        let text = format!(in rt.alloc(); "import __strict__\n{line}")?;
-        assert_verdict(&rt, text.as_bytes(), Status::Done, "published 1")?;
-    }
-    Ok(())
-}
-
-#[test]
-fn refuses_any_other_line(rt: HostRuntime) -> Result<(), Fail> {
-    for line in [
-        "X=1\n",
-        "X = 9223372036854775808\n",
-        "X = 01\n",
-        "if = 1\n",
-        "print = 1\n",
-        "ValueError = 1\n",
-        "__X__ = 1\n",
-        "é = 1\n",
-        "1X = 1\n",
-        " X = 1\n",
-        "X  = 1\n",
-        "X = 1 \n",
-        "X = \n",
-        "X = -1\n",
-        "X = 1\r\n",
-        "\n",
-        "# c\n",
-    ] {
-        let text = format!(in rt.alloc(); "import __strict__\n{line}")?;
-        assert_verdict(&rt, text.as_bytes(), Status::Refused, "refused line 2 E99")?;
-    }
-    Ok(())
+/// Runs on a file `a.py` of a marker and this text.
+fn assert_behind_marker(
+    rt: &(impl Abort + AllocGlobal),
+    text: &[u8],
+    verdict: &str,
+) -> Result<(), AllocError> {
+    let mut bytes = Vec::from_slice(rt.alloc(), MARKER)?;
+    bytes.extend_from_slice(text)?;
+    assert_verdict(rt, &bytes, verdict)
 }
 
 #[test]
@@ -188,7 +139,7 @@ fn reports_the_modules_of_a_directory_in_the_order_of_their_names(
     )?;
     assert_report(
         &rt,
-        &[("b.py", MARKER), ("a.py", b"import __strict__\nX=1\n")],
+        &[("b.py", MARKER), ("a.py", b"import __strict__\nX = -1\n")],
         Status::Refused,
         "module a refused line 2 E99\nmodule b published 0\n",
     )?;
@@ -266,26 +217,5 @@ fn writes_the_rest_of_a_piece_until_the_sink_fails(rt: HostRuntime) -> Result<()
         Status::SinkFault,
         "module a",
     )?;
-    Ok(())
-}
-
-#[test]
-fn refuses_a_file_above_the_greatest_size(rt: HostRuntime) -> Result<(), Fail> {
-    let mut text = vec![in rt.alloc(); b'#'; 1_048_576]?;
-    assert_verdict(&rt, &text, Status::Done, "plain")?;
-    text.push(b'#')?;
-    assert_verdict(&rt, &text, Status::Refused, "refused line 1 E02")?;
-    Ok(())
-}
-
-#[test]
-fn builds_fifty_thousand_lines_and_no_more(rt: HostRuntime) -> Result<(), Fail> {
-    let mut text = Vec::from_slice(rt.alloc(), MARKER)?;
-    for _ in 1..50_000 {
-        text.extend_from_slice(b"X = 1\n")?;
-    }
-    assert_verdict(&rt, &text, Status::Done, "published 1")?;
-    text.extend_from_slice(b"X = 1\n")?;
-    assert_verdict(&rt, &text, Status::Refused, "refused line 50001 E99")?;
     Ok(())
 }

@@ -1,0 +1,11 @@
+-- The name of the registry of a test: its ledger, its way to load and its sources.
+
+use Rattle.std.proofs.Common.{Some}
+use Rattle.std.specs.Arc.{arc_value}
+use Rattle.strict_top.proofs.alone.tests.an_imported_module_is_decided_first.Given as goal
+
+abbrev pub ghosts-decide_both-N-Ledger : goal.ghosts-decide_both-N-Ledger
+ghosts-decide_both-N-Ledger g a = record { name = a.blank.name; parts = a.blank.parts }
+
+abbrev pub ghosts-decide_both-N-Naming : goal.ghosts-decide_both-N-Naming
+ghosts-decide_both-N-Naming g a = record { loads = Some a.loads.now; sources = Some (arc_value a.all.now) }

@@ -1,0 +1,3 @@
+import __strict__
+from models import ODER, USER
+from queues import EXPORTS

@@ -1,0 +1,4 @@
+import __strict__
+
+min = 0
+max = 99

@@ -1,0 +1,6 @@
+import __strict__
+from models import ORDER
+import invoices
+
+OPEN = 0
+PAID = 1

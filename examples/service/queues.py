@@ -1,0 +1,6 @@
+import __strict__
+
+EMAILS = 0
+EXPORTS = 1
+REPORTS = \
+    2

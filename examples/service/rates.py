@@ -1,0 +1,4 @@
+import __strict__
+import currency
+
+EUR_IN_USD = 1.08

@@ -1,0 +1,7 @@
+import __strict__
+import auth
+import billing
+import pages
+
+OK = 200
+NOT_FOUND = 404

@@ -1,0 +1,3 @@
+import __static__
+import db
+import legacy

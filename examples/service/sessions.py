@@ -1,0 +1,4 @@
+import __strict__
+import cache, cookies
+
+IDLE_MINUTES = 20

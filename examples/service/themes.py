@@ -1,0 +1,4 @@
+import __strict__
+
+LIGHT = 0
+	DARK = 1
