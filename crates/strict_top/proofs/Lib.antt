@@ -4,3 +4,6 @@ pub mod ReadSoFar
 pub mod SortedNames
 pub mod FolderModules
 pub mod RunLemmas
+pub mod OneLoader
+pub mod WorldOfFiles
+pub mod OneReport

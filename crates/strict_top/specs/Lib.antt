@@ -4,3 +4,4 @@ pub mod Reports
 pub mod Runs
 pub mod Steps
 pub mod Statuses
+pub mod Deciding

@@ -1,15 +1,18 @@
-ghost use Rattle.std.specs.Prelude.{◌≡◌, ◌<◌, ◌≤◌, Some, false, true, IfOk};
+ghost use Rattle.std.specs.Prelude.{◌≡◌, ◌<◌, ◌≤◌, ◌+◌, Some, false, true, IfOk, MatchOption};
 ghost use Rattle.std.specs.Arc.{arc_value};
 ghost use Rattle.std.specs.List.{list_all, list_any};
+ghost use Rattle.registry_core.specs.Answer.{IsHandedOut};
 ghost use Rattle.registry_core.specs.Named.{module_count, IsNeedOf, IsWorldOf};
 ghost use Rattle.registry_core.specs.Slots.{slot_at, is_claimed, is_decided, is_withdrawn};
 ghost use Rattle.registry_core.specs.Verdicts.{IsWhole};
+ghost use Rattle.strict_top.specs.Deciding.{IsDecidedAt};
 
 use registry_core::claim::{Claim, ClaimAnswer};
 use registry_core::imports::Imports;
 use registry_core::loads::Loads;
 use registry_core::naming::Naming;
 use registry_core::registry::Registry;
+use registry_core::slot::Slot;
 use registry_core::sources::Sources;
 use registry_core::world::World;
 use std::alloc::{AllocError, Global};
@@ -46,13 +49,31 @@ fn decide_named<L: Loads, N: Naming<L, L::Source>>(
     requires sources { N.sources ≡ Some (arc_value all.now) }
     ensures { IfOk result (λ world. IsWorldOf L.Loads N.Naming.own world) }
 {
-    let mut room = Imports::with_room(alloc, all.graph.count())?;
-    let (mut registry, mut share) = Registry::<L, N>::open(alloc, Arc::try_clone(all)?, blank)?;
-    decide_each(alloc, &mut registry, &mut share, &**all, loads, &mut room)?;
+    let registry = decided_registry::<L, N>(alloc, all, loads, blank)?;
     match registry.into_world() {
         Ok(world) => Ok(world),
         Err(_) => unreachable!(),
     }
+}
+
+/// Opens a registry of that name, and decides all modules by it.
+fn decided_registry<L: Loads, N: Naming<L, L::Source>>(
+    alloc: Global,
+    all: &Arc<Sources<L::Source>>,
+    loads: &L,
+    blank: Blank,
+) -> Result<Registry<L, N>, AllocError>
+    requires name { blank.name ≡ N.name }
+    requires parts { blank.parts ≡ N.parts }
+    requires some { 0 < N.parts }
+    requires loads { N.loads ≡ Some loads.now }
+    requires sources { N.sources ≡ Some (arc_value all.now) }
+    ensures { IfOk result (λ registry. list_all is_decided registry.slots ≡ true) }
+{
+    let mut room = Imports::with_room(alloc, all.graph.count())?;
+    let (mut registry, mut share) = Registry::<L, N>::open(alloc, Arc::try_clone(all)?, blank)?;
+    decide_each(alloc, &mut registry, &mut share, &**all, loads, &mut room)?;
+    Ok(registry)
 }
 
 /// Decides every module of a registry in which none is claimed.
@@ -88,6 +109,11 @@ fn next<L: Loads, N: Naming<L, L::Source>>(
     requires room { module_count N.Naming.own ≤ room.old.room }
     requires none_claimed { list_any is_claimed registry.old.slots ≡ false }
     requires none_withdrawn { list_any is_withdrawn registry.old.slots ≡ false }
+    ensures answer { IfOk result (λ next. MatchOption next (list_all is_decided registry.new.slots ≡ true)
+        (λ claim. IsHandedOut L.Loads N.Naming.own registry.old registry.new room.new.rows 0 claim.module claim.loader
+        × (share.new.amount ≡ share.old.amount + 1))) }
+    ensures parts { share.new.parts ≡ share.old.parts }
+    ensures room { room.new.room ≡ room.old.room }
 {
     match registry.claim(share, LOADER, room) {
         ClaimAnswer::Claimed(claim) => Ok(Some(claim)),
@@ -112,7 +138,11 @@ fn decide<L: Loads, N: Naming<L, L::Source>>(
     requires loads { N.loads ≡ Some loads.now }
     requires sources { N.sources ≡ Some all.now }
     requires there { claim.module < module_count N.Naming.own }
+    requires slot { slot_at registry.old.slots claim.module ≡ Slot.Claimed claim.loader }
+    requires share { 1 ≤ share.old.amount }
     requires imports { IsNeedOf L.Loads N.Naming.own claim.module imports.now.rows }
+    ensures decided { IfOk result (λ _. IsDecidedAt registry.old.slots registry.new.slots claim.module) }
+    ensures parts { share.new.parts ≡ share.old.parts }
 {
     let Ok(verdict) = loads.load(all, claim.module, imports) else {
         registry.withdraw(share, claim);

@@ -1,13 +1,11 @@
 ghost use Rattle.std.specs.Prelude.{◌≡◌, ◌<◌, Some};
 ghost use Rattle.std.specs.Arc.{arc_value};
 
-use super::{LOADER, decide_each};
+use super::{LOADER, decided_registry};
 use module_load::folder::{ModuleFile, sources_of};
 use module_load::source::Source;
 use module_load::strict_python::StrictPython;
-use registry_core::imports::Imports;
 use registry_core::naming::Naming;
-use registry_core::registry::Registry;
 use registry_core::slot::{Event, EventKind};
 use registry_core::sources::Sources;
 use std::alloc::{AllocError, Global};
@@ -56,13 +54,7 @@ fn decide_both<N: Naming<StrictPython, Source>, R: Abort>(
     requires loads { N.loads ≡ Some loads.now }
     requires sources { N.sources ≡ Some (arc_value all.now) }
 {
-    let mut room = Imports::with_room(alloc, all.graph.count())?;
-    let (mut registry, mut share) = Registry::<StrictPython, N>::open(
-        alloc,
-        Arc::try_clone(all)?,
-        blank,
-    )?;
-    decide_each(alloc, &mut registry, &mut share, &**all, loads, &mut room)?;
+    let registry = decided_registry::<StrictPython, N>(alloc, all, loads, blank)?;
     assert_eq!(rt;
         registry.history(),
         [
