@@ -38,7 +38,8 @@ one_report_told (Holds files) a b holding of_a of_b =
     (subst (λ (list : List File). IsReportOf list a) of_a.1 of_a.2)
     (subst (λ (list : List File). IsReportOf list b) of_b.1 of_b.2)
 
-one_report_named : (dir : Option (List ℕ)) (told : List ℕ → Told) (a b : Report) → IsToldNamed dir told → IsReportNamed dir told a → IsReportNamed dir told b → a ≡ b
+one_report_named : (dir : Option (List ℕ)) (told : List ℕ → Told) (a b : Report) → IsToldNamed dir told
+    → IsReportNamed dir told a → IsReportNamed dir told b → a ≡ b
 one_report_named None told a b holding of_a of_b = of_a ∙ sym of_b
 one_report_named (Some dir) told a b holding of_a of_b = one_report_told (told dir) a b holding of_a of_b
 

@@ -25,8 +25,8 @@ abbrev pub IsPythonWorld : StrictPython → Sources Source → List Verdict → 
 IsPythonWorld loads all verdicts =
     IsWhole (λ v. v) (λ l all m list. right all m list) (λ l all m list v. v ≡ right all m list) is_refused (Some loads) (Some all) verdicts
 
-pub world_of_files : (files : List File) (loads : StrictPython) (all : Sources Source) (verdicts : List Verdict) → IsSources files all → IsPythonWorld loads all verdicts
-    → AreDecided files verdicts
+pub world_of_files : (files : List File) (loads : StrictPython) (all : Sources Source) (verdicts : List Verdict)
+    → IsSources files all → IsPythonWorld loads all verdicts → AreDecided files verdicts
 world_of_files files loads all verdicts sources whole =
     let as_many : length verdicts ≡ length files = omega (arith, whole.all, all.each, sources.list.as_many) in
     record {
