@@ -12,6 +12,7 @@ use Rattle.std.specs.List.{list_any, filter_map, cons_option, Contains, AllByRec
 use Rattle.std.specs.List.Sorted.{IsPermutation, IsStrictlySortedBy}
 use Rattle.std.specs.Ordering.{is_eq, is_lt, eq_by_cmp}
 use Rattle.std.specs.Str.{bytes_eq}
+use Rattle.std.specs.String.{string_cmp}
 use Rattle.std.proofs.lemmas.Map.Text.{is_eq-slice_cmp}
 use Rattle.std.proofs.lemmas.Bool.{false_from_ne_true}
 use Rattle.std.proofs.lemmas.List.Elements.{All-contains, All-from_recursion}
@@ -20,14 +21,15 @@ use Rattle.std.proofs.lemmas.List.Sorted.{list_any-IsPermutation}
 use Rattle.std.proofs.lemmas.Slice.Eq.{bytes_eq-Decides}
 use Rattle.std.proofs.lemmas.Option.{same_Some}
 use Rattle.outside.specs.Files.{Files, Told, Untold, Missing, Holds, IsListing, IsThere, front_of}
-use Rattle.strict_top.specs.Modules.{Source, modules, module_in, source_in, source_cmp, LiesIn, AreModules}
-use Rattle.strict_top.specs.Steps.{AreRead, IsSourceIn}
+use Rattle.module_load.specs.Folders.{File}
+use Rattle.strict_top.specs.Modules.{modules, module_in, module_of, file_cmp, LiesIn, AreModules}
+use Rattle.strict_top.specs.Steps.{AreRead, IsFileIn}
 use Rattle.strict_top.proofs.ModuleLemmas.{module_file, ending}
-use Rattle.strict_top.proofs.SortedNames.{name_cmp, keyed, same_names, sorted_entries, left_holds, right_holds}
+use Rattle.strict_top.proofs.SortedNames.{name_cmp, keyed, same_names, sorted_entries, sorted_keys, left_holds, right_holds}
 
--- the sources that the files hold, in the files' order
-abbrev sources_in : List (List ℕ × List ℕ) → List Source
-sources_in = filter_map source_in
+-- the modules that the files hold, in the files' order
+abbrev modules_in : List (List ℕ × List ℕ) → List File
+modules_in = filter_map module_of
 
 -- names that differ don't tie, and equal ones do
 tied : (a b : List ℕ) → a ≡ b → eq_by_cmp name_cmp a b ≡ true
@@ -58,15 +60,15 @@ held_in file files name bytes is front =
       ap (λ b. option_map front_of (if b then Some file.1 else find name_cmp (name ++ ending) files)) (tied (name ++ ending) file.0 (sym file_is)) ∙ ap Some front,
     )
 
-source_step : (file : List ℕ × List ℕ) (files : List (List ℕ × List ℕ)) (name bytes : List ℕ) → (find name_cmp name (sources_in files) ≡ Some bytes → IsHeld files name bytes) →
-    (here : Option (List ℕ)) → module_in file.0 ≡ here → find name_cmp name (cons_option (option_map (λ n. (n, front_of file.1)) here) (sources_in files)) ≡ Some bytes → IsHeld (file ∷ files) name bytes
+module_step : (file : List ℕ × List ℕ) (files : List (List ℕ × List ℕ)) (name bytes : List ℕ) → (find name_cmp name (modules_in files) ≡ Some bytes → IsHeld files name bytes) →
+    (here : Option (List ℕ)) → module_in file.0 ≡ here → find name_cmp name (cons_option (option_map (λ n. (n, front_of file.1)) here) (modules_in files)) ≡ Some bytes → IsHeld (file ∷ files) name bytes
 unfolding IsHeld
-source_step file files name bytes rest None none found =
+module_step file files name bytes rest None none found =
     let held = rest found in
     held_behind file files name bytes (λ same. let e : Some name ≡ None = sym held.0 ∙ ap module_in same ∙ none in absurd cc) held
-source_step file files name bytes rest (Some n) is found = by (eq_by_cmp name_cmp name n) refl found
+module_step file files name bytes rest (Some n) is found = by (eq_by_cmp name_cmp name n) refl found
   where
-    by : (b : Bool) → eq_by_cmp name_cmp name n ≡ b → (if b then Some (front_of file.1) else find name_cmp name (sources_in files)) ≡ Some bytes → IsHeld (file ∷ files) name bytes
+    by : (b : Bool) → eq_by_cmp name_cmp name n ≡ b → (if b then Some (front_of file.1) else find name_cmp name (modules_in files)) ≡ Some bytes → IsHeld (file ∷ files) name bytes
     by true same found = held_in file files name bytes (is ∙ ap Some (sym (untied name n same))) (same_Some _ _ found)
     by false differ found =
         let held = rest found in
@@ -74,17 +76,17 @@ source_step file files name bytes rest (Some n) is found = by (eq_by_cmp name_cm
         let e : name ≡ n = same_Some _ _ (sym held.0 ∙ ap module_in same ∙ is) in
         let t = tied name n e in absurd cc) held
 
-source_found : (files : List (List ℕ × List ℕ)) (name bytes : List ℕ) → find name_cmp name (sources_in files) ≡ Some bytes → IsHeld files name bytes
-source_found [] name bytes found = absurd cc
-source_found (file ∷ files) name bytes found = source_step file files name bytes (source_found files name bytes) (module_in file.0) refl found
+module_found : (files : List (List ℕ × List ℕ)) (name bytes : List ℕ) → find name_cmp name (modules_in files) ≡ Some bytes → IsHeld files name bytes
+module_found [] name bytes found = absurd cc
+module_found (file ∷ files) name bytes found = module_step file files name bytes (module_found files name bytes) (module_in file.0) refl found
 
--- the names of the sources are those of the modules among the files' names
-names_in : (files : List (List ℕ × List ℕ)) → map (λ (s : Source). s.0) (sources_in files) ≡ filter_map module_in (map (λ (f : List ℕ × List ℕ). f.0) files)
+-- the names of the modules are those among the files' names
+names_in : (files : List (List ℕ × List ℕ)) → map (λ (file : File). file.0) (modules_in files) ≡ filter_map module_in (map (λ (f : List ℕ × List ℕ). f.0) files)
 names_in [] = refl
 names_in (file ∷ files) = by (module_in file.0) (names_in files)
   where
-    by : (here : Option (List ℕ)) → map (λ (s : Source). s.0) (sources_in files) ≡ filter_map module_in (map (λ (f : List ℕ × List ℕ). f.0) files) →
-        map (λ (s : Source). s.0) (cons_option (option_map (λ n. (n, front_of file.1)) here) (sources_in files)) ≡ cons_option here (filter_map module_in (map (λ (f : List ℕ × List ℕ). f.0) files))
+    by : (here : Option (List ℕ)) → map (λ (file : File). file.0) (modules_in files) ≡ filter_map module_in (map (λ (f : List ℕ × List ℕ). f.0) files) →
+        map (λ (file : File). file.0) (cons_option (option_map (λ n. (n, front_of file.1)) here) (modules_in files)) ≡ cons_option here (filter_map module_in (map (λ (f : List ℕ × List ℕ). f.0) files))
     by None rest = rest
     by (Some n) rest = ap (λ ns. n ∷ ns) rest
 
@@ -110,18 +112,26 @@ any_alike : (q : List ℕ) (names : List (List ℕ)) → list_any (eq_by_cmp nam
 any_alike q [] = refl
 any_alike q (name ∷ names) = λ i. is_eq-slice_cmp q name i || any_alike q names i
 
--- the names that were listed, in order, are the modules'
-pub names_are : (files : Files) (listed names : List (List ℕ)) → IsPermutation listed (keys files) → ((q : List ℕ) → list_any (bytes_eq q) names ≡ list_any (bytes_eq q) (filter_map module_in listed))
-    → T (is_sorted name_cmp (keyed names)) → names ≡ map (λ (s : Source). s.0) (modules files)
-names_are files listed names moved members sorted =
-    let held = sources_in (entries files) in
-    same_names names (map (λ (s : Source). s.0) (modules files)) sorted (sorted_entries (modules files) (entries_sorted (from_entries {R = name_cmp} held)))
-    (λ q. any_alike q names ∙ members q ∙ any_listed (bytes_eq q) listed (keys files) moved ∙ ap (list_any (bytes_eq q)) (sym (names_in (entries files)))
-    ∙ sym (any_alike q (map (λ (s : Source). s.0) held)) ∙ sym (is_some-find name_cmp q held) ∙ ap is_some (sym (get-from_entries nat_list_cmp_total held q))
+-- The names of the modules of a directory, in order, where it is told.
+abbrev pub AreNames : Told → List (List ℕ) → Type 0
+AreNames Untold names = Unit {0}
+AreNames Missing names = ⊥
+AreNames (Holds files) names = names ≡ map (λ (file : File). file.0) (modules files)
+
+-- those that were listed are
+names_are : (told : Told) (listed names : List (List ℕ)) → IsListing told listed → ((q : List ℕ) → list_any (bytes_eq q) names ≡ list_any (bytes_eq q) (filter_map module_in listed))
+    → T (is_sorted name_cmp (keyed names)) → AreNames told names
+names_are Untold listed names listing members sorted = tt
+names_are Missing listed names listing members sorted = listing
+names_are (Holds files) listed names listing members sorted =
+    let held = modules_in (entries files) in
+    same_names names (map (λ (file : File). file.0) (modules files)) sorted (sorted_entries (modules files) (entries_sorted (from_entries {R = name_cmp} held)))
+    (λ q. any_alike q names ∙ members q ∙ any_listed (bytes_eq q) listed (keys files) listing ∙ ap (list_any (bytes_eq q)) (sym (names_in (entries files)))
+    ∙ sym (any_alike q (map (λ (file : File). file.0) held)) ∙ sym (is_some-find name_cmp q held) ∙ ap is_some (sym (get-from_entries nat_list_cmp_total held q))
     ∙ contains_key-keys (from_entries {R = name_cmp} held) q)
 
 -- a name below all isn't found
-none_below : (name : List ℕ) (es : List Source) → T (below_all name_cmp name es) → find name_cmp name es ≡ None
+none_below : (name : List ℕ) (es : List File) → T (below_all name_cmp name es) → find name_cmp name es ≡ None
 none_below name [] below = refl
 none_below name (e ∷ es) below = by (name_cmp name e.0) (left_holds _ _ below) (none_below name es (right_holds _ _ below))
   where
@@ -131,7 +141,7 @@ none_below name (e ∷ es) below = by (name_cmp name e.0) (left_holds _ _ below)
     by Greater below rest = rest
 
 -- what holds of each entry that is found holds of each
-found_each : (P : Source → Type 0) (es : List Source) → T (is_sorted name_cmp es) → ((q b : List ℕ) → find name_cmp q es ≡ Some b → P (q, b)) → AllByRecursion P es
+found_each : (P : File → Type 0) (es : List File) → T (is_sorted name_cmp es) → ((q b : List ℕ) → find name_cmp q es ≡ Some b → P (q, b)) → AllByRecursion P es
 found_each P [] sorted each = tt
 found_each P (e ∷ es) sorted each = (
   each e.0 e.1 (ap (λ b. if b then Some e.1 else find name_cmp e.0 es) (tied e.0 e.0 refl)),
@@ -140,40 +150,38 @@ found_each P (e ∷ es) sorted each = (
 )
 
 -- each module of a directory is what a reading of its file gives
-pub modules_read : (files : Files) → AllByRecursion (IsSourceIn (Holds files)) (modules files)
+pub modules_read : (files : Files) → AllByRecursion (IsFileIn (Holds files)) (modules files)
 unfolding IsHeld
 modules_read files =
-    let held = sources_in (entries files) in
+    let held = modules_in (entries files) in
     let all = from_entries {R = name_cmp} held in
-    found_each (IsSourceIn (Holds files)) (entries all) (entries_sorted all) (λ q b found.
-    let h = source_found (entries files) q b (sym (get-from_entries nat_list_cmp_total held q) ∙ get-entries all q ∙ found) in
+    found_each (IsFileIn (Holds files)) (entries all) (entries_sorted all) (λ q b found.
+    let h = module_found (entries files) q b (sym (get-from_entries nat_list_cmp_total held q) ∙ get-entries all q ∙ found) in
     ap (option_map front_of) (get-entries files (q ++ ending)) ∙ h.1)
 
--- sources of the same names that were read from the same files are the same
-same_sources : (files : Files) (xs ys : List Source) → map (λ (s : Source). s.0) xs ≡ map (λ (s : Source). s.0) ys → AllByRecursion (IsSourceIn (Holds files)) xs → AllByRecursion (IsSourceIn (Holds files)) ys → xs ≡ ys
-same_sources files [] [] names xs_read ys_read = refl
-same_sources files [] (y ∷ ys) names xs_read ys_read = absurd cc
-same_sources files (x ∷ xs) [] names xs_read ys_read = absurd cc
-same_sources files (x ∷ xs) (y ∷ ys) names xs_read ys_read =
+-- modules of the same names that were read from the same files are the same
+pub same_modules : (files : Files) (xs ys : List File) → map (λ (file : File). file.0) xs ≡ map (λ (file : File). file.0) ys → AllByRecursion (IsFileIn (Holds files)) xs → AllByRecursion (IsFileIn (Holds files)) ys → xs ≡ ys
+same_modules files [] [] names xs_read ys_read = refl
+same_modules files [] (y ∷ ys) names xs_read ys_read = absurd cc
+same_modules files (x ∷ xs) [] names xs_read ys_read = absurd cc
+same_modules files (x ∷ xs) (y ∷ ys) names xs_read ys_read =
     let name_is : x.0 ≡ y.0 = cc in
-    let rest : map (λ (s : Source). s.0) xs ≡ map (λ (s : Source). s.0) ys = cc in
+    let rest : map (λ (file : File). file.0) xs ≡ map (λ (file : File). file.0) ys = cc in
     let bytes_is = same_Some _ _ (sym xs_read.0 ∙ ap (λ n. option_map front_of (get files (n ++ ending))) name_is ∙ ys_read.0) in
-    λ i. (name_is i, bytes_is i) ∷ same_sources files xs ys rest xs_read.1 ys_read.1 i
+    λ i. (name_is i, bytes_is i) ∷ same_modules files xs ys rest xs_read.1 ys_read.1 i
 
 -- what was read of a directory is its modules
-pub sources_are : (told : Told) (listed names : List (List ℕ)) (sources : List Source) → IsListing told listed → ((q : List ℕ) → list_any (bytes_eq q) names ≡ list_any (bytes_eq q) (filter_map module_in listed))
-    → T (is_sorted name_cmp (keyed names)) → AreRead told names sources → AreModules told sources
-sources_are Untold listed names sources listing members sorted read = tt
-sources_are Missing listed names sources listing members sorted read = listing
-sources_are (Holds files) listed names sources listing members sorted read =
-    same_sources files sources (modules files) (read.named ∙ names_are files listed names listing members sorted) read.each (modules_read files)
+pub modules_are : (told : Told) (names : List (List ℕ)) (found : List File) → AreNames told names → AreRead told names found → AreModules told found
+modules_are Untold names found are read = tt
+modules_are Missing names found are read = are
+modules_are (Holds files) names found are read = same_modules files found (modules files) (read.named ∙ are) read.each (modules_read files)
 
 -- the modules' files are there
-files_there : (files : Files) (sources : List Source) → AllByRecursion (IsSourceIn (Holds files)) sources → AllByRecursion (λ name. IsThere (Holds files) (name ++ ending)) (map (λ (s : Source). s.0) sources)
+files_there : (files : Files) (found : List File) → AllByRecursion (IsFileIn (Holds files)) found → AllByRecursion (λ name. IsThere (Holds files) (name ++ ending)) (map (λ (file : File). file.0) found)
 files_there files [] read = tt
-files_there files (s ∷ sources) read = (is_there (get files (s.0 ++ ending)) read.0, files_there files sources read.1)
+files_there files (file ∷ found) read = (is_there (get files (file.0 ++ ending)) read.0, files_there files found read.1)
   where
-    is_there : (found : Option (List ℕ)) → option_map front_of found ≡ Some s.1 → IsTrue (is_some found)
+    is_there : (found : Option (List ℕ)) → option_map front_of found ≡ Some file.1 → IsTrue (is_some found)
     is_there None is = absurd cc
     is_there (Some bytes) is = refl
 
@@ -181,17 +189,23 @@ untold_there : (names : List (List ℕ)) → AllByRecursion (λ name. IsThere Un
 untold_there [] = tt
 untold_there (name ∷ names) = (tt, untold_there names)
 
-pub names_there : (told : Told) (listed names : List (List ℕ)) → IsListing told listed → ((q : List ℕ) → list_any (bytes_eq q) names ≡ list_any (bytes_eq q) (filter_map module_in listed))
-    → T (is_sorted name_cmp (keyed names)) → AllByRecursion (λ name. IsThere told (name ++ ending)) names
-names_there Untold listed names listing members sorted = untold_there names
-names_there Missing listed names listing members sorted = absurd listing
-names_there (Holds files) listed names listing members sorted =
-    subst (AllByRecursion (λ name. IsThere (Holds files) (name ++ ending))) (sym (names_are files listed names listing members sorted)) (files_there files (modules files) (modules_read files))
+pub names_there : (told : Told) (names : List (List ℕ)) → AreNames told names → AllByRecursion (λ name. IsThere told (name ++ ending)) names
+names_there Untold names are = untold_there names
+names_there Missing names are = absurd are
+names_there (Holds files) names are = subst (AllByRecursion (λ name. IsThere (Holds files) (name ++ ending))) (sym are) (files_there files (modules files) (modules_read files))
 
 -- a set of names, by the bytes of its keys
-pub any_key : (keys : List (String Global)) (q : List ℕ) → list_any (λ key. is_eq (name_cmp q (string_bytes key))) keys ≡ list_any (bytes_eq q) (map string_bytes keys)
+any_key : (keys : List (String Global)) (q : List ℕ) → list_any (λ key. is_eq (name_cmp q (string_bytes key))) keys ≡ list_any (bytes_eq q) (map string_bytes keys)
 any_key [] q = refl
 any_key (key ∷ keys) q = λ i. is_eq-slice_cmp q (string_bytes key) i || any_key keys q i
+
+pub set_names_are : (told : Told) (listed seen keys : List (String Global)) → IsListing told (map string_bytes listed) → seen ≡ listed →
+    ((q : List ℕ) → list_any (λ key. is_eq (name_cmp q (string_bytes key))) keys ≡ list_any (bytes_eq q) (filter_map module_in (map string_bytes seen))) →
+    IsStrictlySortedBy string_cmp keys → AreNames told (map string_bytes keys)
+set_names_are told listed seen keys listing same members sorted =
+    names_are told (map string_bytes listed) (map string_bytes keys) listing
+    (λ q. sym (any_key keys q) ∙ members q ∙ ap (λ files. list_any (bytes_eq q) (filter_map module_in (map string_bytes files))) same)
+    (sorted_keys keys sorted)
 
 pub each_key : (P : List ℕ → Type 0) (keys : List (String Global)) → AllByRecursion P (map string_bytes keys) → AllByRecursion (λ (key : String Global). P (string_bytes key)) keys
 each_key P [] each = tt
@@ -203,46 +217,46 @@ each_key P (key ∷ keys) each = (each.0, each_key P keys each.1)
 lies_in_each : (files : Files) → AllByRecursion (LiesIn files) (modules files)
 unfolding IsHeld
 lies_in_each files =
-    let held = sources_in (entries files) in
+    let held = modules_in (entries files) in
     let all = from_entries {R = name_cmp} held in
     found_each (LiesIn files) (entries all) (entries_sorted all) (λ q b found.
-    let h = source_found (entries files) q b (sym (get-from_entries nat_list_cmp_total held q) ∙ get-entries all q ∙ found) in
+    let h = module_found (entries files) q b (sym (get-from_entries nat_list_cmp_total held q) ∙ get-entries all q ∙ found) in
     record { is_module = h.0; is_front = ap (option_map front_of) (get-entries files (q ++ ending)) ∙ h.1 })
 
 -- one file more in front, which is another's or no module's, hides nothing
 found_behind : (file : List ℕ × List ℕ) (name : List ℕ) (front : Option (List ℕ)) (files : List (List ℕ × List ℕ)) (here : Option (List ℕ)) → module_in file.0 ≡ here → name ++ ending ≢ file.0
-    → find name_cmp name (sources_in files) ≡ front → find name_cmp name (cons_option (option_map (λ n. (n, front_of file.1)) here) (sources_in files)) ≡ front
+    → find name_cmp name (modules_in files) ≡ front → find name_cmp name (cons_option (option_map (λ n. (n, front_of file.1)) here) (modules_in files)) ≡ front
 found_behind file name front files None is other found = found
 found_behind file name front files (Some n) is other found =
-    ap (λ b. if b then Some (front_of file.1) else find name_cmp name (sources_in files)) (apart name n (λ same. other (ap (λ m. m ++ ending) same ∙ sym (module_file file.0 n is)))) ∙ found
+    ap (λ b. if b then Some (front_of file.1) else find name_cmp name (modules_in files)) (apart name n (λ same. other (ap (λ m. m ++ ending) same ∙ sym (module_file file.0 n is)))) ∙ found
 
 -- what a module's file has at its front is found under its name
-front_found : (files : List (List ℕ × List ℕ)) (name bytes : List ℕ) → module_in (name ++ ending) ≡ Some name → find name_cmp (name ++ ending) files ≡ Some bytes → find name_cmp name (sources_in files) ≡ Some (front_of bytes)
+front_found : (files : List (List ℕ × List ℕ)) (name bytes : List ℕ) → module_in (name ++ ending) ≡ Some name → find name_cmp (name ++ ending) files ≡ Some bytes → find name_cmp name (modules_in files) ≡ Some (front_of bytes)
 front_found [] name bytes is found = absurd cc
 front_found (file ∷ files) name bytes is found = by (eq_by_cmp name_cmp (name ++ ending) file.0) refl found (front_found files name bytes is)
   where
     by : (b : Bool) → eq_by_cmp name_cmp (name ++ ending) file.0 ≡ b → (if b then Some file.1 else find name_cmp (name ++ ending) files) ≡ Some bytes
-        → (find name_cmp (name ++ ending) files ≡ Some bytes → find name_cmp name (sources_in files) ≡ Some (front_of bytes)) → find name_cmp name (sources_in (file ∷ files)) ≡ Some (front_of bytes)
+        → (find name_cmp (name ++ ending) files ≡ Some bytes → find name_cmp name (modules_in files) ≡ Some (front_of bytes)) → find name_cmp name (modules_in (file ∷ files)) ≡ Some (front_of bytes)
     by true same found rest =
         let here : module_in file.0 ≡ Some name = ap module_in (sym (untied (name ++ ending) file.0 same)) ∙ is in
-        ap (λ h. find name_cmp name (cons_option (option_map (λ n. (n, front_of file.1)) h) (sources_in files))) here
-        ∙ ap (λ b. if b then Some (front_of file.1) else find name_cmp name (sources_in files)) (tied name name refl) ∙ ap (option_map front_of) found
+        ap (λ h. find name_cmp name (cons_option (option_map (λ n. (n, front_of file.1)) h) (modules_in files))) here
+        ∙ ap (λ b. if b then Some (front_of file.1) else find name_cmp name (modules_in files)) (tied name name refl) ∙ ap (option_map front_of) found
     by false differ found rest =
         found_behind file name (Some (front_of bytes)) files (module_in file.0) refl (λ same. let t = tied (name ++ ending) file.0 same in absurd cc) (rest found)
 
 -- and what lies in it is one of them
-one_of_modules : (files : Files) (source : Source) (found : Option (List ℕ)) → get files (source.0 ++ ending) ≡ found → module_in (source.0 ++ ending) ≡ Some source.0 → option_map front_of found ≡ Some source.1 → Contains (modules files) source
-one_of_modules files source None is module_is front = absurd cc
-one_of_modules files source (Some bytes) is module_is front =
-    let held = sources_in (entries files) in
+one_of_modules : (files : Files) (file : File) (found : Option (List ℕ)) → get files (file.0 ++ ending) ≡ found → module_in (file.0 ++ ending) ≡ Some file.0 → option_map front_of found ≡ Some file.1 → Contains (modules files) file
+one_of_modules files file None is module_is front = absurd cc
+one_of_modules files file (Some bytes) is module_is front =
+    let held = modules_in (entries files) in
     let all = from_entries {R = name_cmp} held in
-    let found = front_found (entries files) source.0 bytes module_is (sym (get-entries files (source.0 ++ ending)) ∙ is) in
-    Contains-from_lookup untied source.0 source.1 (entries all) (sym (get-entries all source.0) ∙ get-from_entries nat_list_cmp_total held source.0 ∙ found ∙ front)
+    let found = front_found (entries files) file.0 bytes module_is (sym (get-entries files (file.0 ++ ending)) ∙ is) in
+    Contains-from_lookup untied file.0 file.1 (entries all) (sym (get-entries all file.0) ∙ get-from_entries nat_list_cmp_total held file.0 ∙ found ∙ front)
 
-pub modules_lie_in : (files : Files) (source : Source) → Contains (modules files) source ↔ LiesIn files source
-modules_lie_in files source = (
-  λ one. All-contains (LiesIn files) (modules files) source (All-from_recursion (LiesIn files) (modules files) (lies_in_each files)) one,
-  λ lies. one_of_modules files source (get files (source.0 ++ ending)) refl lies.is_module lies.is_front,
+pub modules_lie_in : (files : Files) (file : File) → Contains (modules files) file ↔ LiesIn files file
+modules_lie_in files file = (
+  λ one. All-contains (LiesIn files) (modules files) file (All-from_recursion (LiesIn files) (modules files) (lies_in_each files)) one,
+  λ lies. one_of_modules files file (get files (file.0 ++ ending)) refl lies.is_module lies.is_front,
 )
 
 -- their names are in order
@@ -251,14 +265,14 @@ less Less h = refl
 less Equal h = absurd h
 less Greater h = absurd h
 
-below_each : (name : List ℕ) (es : List Source) → T (below_all name_cmp name es) → AllByRecursion (λ (e : Source). name_cmp name e.0 ≡ Less) es
+below_each : (name : List ℕ) (es : List File) → T (below_all name_cmp name es) → AllByRecursion (λ (e : File). name_cmp name e.0 ≡ Less) es
 below_each name [] below = tt
 below_each name (e ∷ es) below = (less _ (left_holds _ _ below), below_each name es (right_holds _ _ below))
 
-rising : (es : List Source) → T (is_sorted name_cmp es) → IsStrictlySortedBy source_cmp es
+rising : (es : List File) → T (is_sorted name_cmp es) → IsStrictlySortedBy file_cmp es
 unfolding IsStrictlySortedBy
 rising [] sorted = tt
 rising (e ∷ es) sorted = (below_each e.0 es (left_holds _ _ sorted), rising es (right_holds _ _ sorted))
 
-pub modules_rise : (files : Files) → IsStrictlySortedBy source_cmp (modules files)
-modules_rise files = rising (modules files) (entries_sorted (from_entries {R = name_cmp} (sources_in (entries files))))
+pub modules_rise : (files : Files) → IsStrictlySortedBy file_cmp (modules files)
+modules_rise files = rising (modules files) (entries_sorted (from_entries {R = name_cmp} (modules_in (entries files))))

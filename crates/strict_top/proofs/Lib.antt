@@ -3,6 +3,7 @@ pub mod ModuleLemmas
 pub mod ReadSoFar
 pub mod SortedNames
 pub mod FolderModules
+pub mod FoundModules
 pub mod RunLemmas
 pub mod OneLoader
 pub mod WorldOfFiles

@@ -1,5 +1,5 @@
 -- No definitions of the loader: what the private steps of a run promise one another.
-use Rattle.std.specs.Prelude.{◌≡◌, ℕ, true, false, List, [], ◌∷◌, ◌++◌, length, codes, map, Option, take}
+use Rattle.std.specs.Prelude.{◌≡◌, ◌<◌, ◌≤◌, ℕ, true, false, List, [], ◌∷◌, ◌++◌, length, codes, map, Option, take}
 use Rattle.std.specs.List.{AllByRecursion}
 use Rattle.outside.specs.Bytes.{Appends}
 use Rattle.outside.specs.Faults.{HasRisen}
@@ -12,7 +12,7 @@ use Rattle.strict_top.specs.declared.reading.Found.{Found}
 use Rattle.strict_top.specs.declared.reading.Found.TheVariants as found
 use Rattle.strict_top.specs.declared.status.Status.{Status}
 use Rattle.strict_top.specs.declared.status.Status.TheVariants.{FolderFault, SinkFault, OutOfMemory}
-use Rattle.strict_top.specs.Modules.{AreModules, is_too_large}
+use Rattle.strict_top.specs.Modules.{AreModules, is_too_large, greatest_size, size_of}
 use Rattle.strict_top.specs.Reports.{Report, Judged, judged}
 
 -- What a reading of the module's file gives.
@@ -23,6 +23,11 @@ IsFileIn told file = IsReading told (file.0 ++ codes ".py") file.1
 pub record AreRead (told : Told) (names : List (List ℕ)) (files : List File) : Type 0 where
   pub named : map (λ (file : File). file.0) files ≡ names
   pub each : AllByRecursion (IsFileIn told) files
+
+-- What reading the modules of these names gives: all of them, or where the first ones already have too many bytes, no more.
+abbrev pub IsReadOf : Told → List (List ℕ) → Found → Type 0
+IsReadOf told names (found.Modules files) = AreRead told names (map file_of files.items) × (size_of (map file_of files.items) ≤ greatest_size)
+IsReadOf told names found.TooLarge = (n : ℕ) × (files : List File) × AreRead told (take n names) files × (greatest_size < size_of files)
 
 -- What was found in a directory.
 abbrev pub IsFound : Told → Found → Type 0

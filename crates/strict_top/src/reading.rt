@@ -3,7 +3,7 @@ ghost use Rattle.std.specs.List.{All};
 ghost use Rattle.outside.specs.Faults.{CountsFolder};
 ghost use Rattle.outside.specs.Files.{IsThere};
 ghost use Rattle.module_load.specs.Folders.{file_of};
-ghost use Rattle.strict_top.specs.Steps.{IsFileIn, IsFound};
+ghost use Rattle.strict_top.specs.Steps.{IsFileIn, IsFound, IsReadOf};
 
 use crate::modules::modules_among;
 use module_load::folder::ModuleFile;
@@ -53,6 +53,7 @@ fn read_each<F: Folder>(
 ) -> Result<Found, FolderFault>
     requires { All (λ name. IsThere (F.told folder.old dir.now) (string_bytes name ++ codes ".py"))
         names.now.keys }
+    ensures read { IfOk result (IsReadOf (F.told folder.old dir.now) (map string_bytes names.now.keys)) }
     ensures count { CountsFolder result (F.faults folder.old) (F.faults folder.new) }
     ensures same { F.told folder.new ≡ F.told folder.old }
 {
