@@ -1,4 +1,5 @@
 pub mod Writing
+pub mod ReportLemmas
 pub mod ModuleLemmas
 pub mod ReadSoFar
 pub mod SortedNames

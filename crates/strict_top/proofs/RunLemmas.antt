@@ -1,34 +1,51 @@
 -- What the answers of a run tell, from what was done with its report.
-use Rattle.std.proofs.Common.{◌≡◌, ◌≢◌, ℕ, IfSome, Option, Some, None, List, map, refl, ap, ◌∙◌, subst, take}
+use Rattle.std.proofs.Common.{◌≡◌, ◌≢◌, ℕ, true, false, Option, Some, None, List, map, refl, sym, ap, subst, take}
 use Rattle.outside.specs.Bytes.{Appends}
 use Rattle.outside.specs.Faults.{HasRisen}
-use Rattle.outside.specs.Files.{Told, Untold, Missing, Holds}
+use Rattle.outside.specs.Files.{Told}
+use Rattle.module_load.specs.declared.folder.ModuleFile.{ModuleFile}
+use Rattle.module_load.specs.declared.verdict.Verdict.{Verdict}
+use Rattle.module_load.specs.Folders.{File, file_of}
 use Rattle.strict_top.specs.declared.status.Status.{Status}
 use Rattle.strict_top.specs.declared.status.Status.TheVariants.{Done, Raised, Refused, BadWords, FolderFault, SinkFault, OutOfMemory, TooLarge}
-use Rattle.strict_top.specs.Modules.{Source, AreModules}
-use Rattle.strict_top.specs.Reports.{Report, report_of, report_on, bad_words, Judged, judged}
+use Rattle.strict_top.specs.Modules.{AreModules, is_too_large}
+use Rattle.strict_top.specs.Reports.{Report, bad_words, report_of, too_large}
 use Rattle.strict_top.specs.Words.{directory_of}
-use Rattle.strict_top.specs.Runs.{IsReportNamed, IsReport, HasEnded, WritesFront, WritesReport, report_named, report_in}
-use Rattle.strict_top.specs.Steps.{Writes}
+use Rattle.strict_top.specs.Runs.{HasEnded, IsReport, IsReportBy, IsReportNamed, IsTold, WritesFront, WritesReport}
+use Rattle.strict_top.specs.Steps.{AreDecided, Writes, paired}
+use Rattle.strict_top.proofs.OneReport.{one_report}
 
 -- the report of words that aren't taken
 pub report_of_bad_words : (words : List (List ℕ)) (told : List ℕ → Told) → None ≡ directory_of words → IsReport words told bad_words
 report_of_bad_words words told none = subst (λ d. IsReportNamed d told bad_words) none refl
 
--- a report on the modules of the directory that the words name
-pub report_on_modules : (words : List (List ℕ)) (told : List ℕ → Told) (dir : List ℕ) (entries : List Judged) → Some dir ≡ directory_of words →
-    (sources : List Source) × AreModules (told dir) sources × (entries ≡ map judged sources) → IsReport words told (report_of entries)
-report_on_modules words told dir entries named read = subst (λ d. IsReportNamed d told (report_of entries)) named (read.0, read.1, ap report_of read.2)
+-- the report on a directory that is too large
+pub report_of_too_large : (words : List (List ℕ)) (told : List ℕ → Told) (dir : List ℕ) → Some dir ≡ directory_of words →
+    (files : List File) × AreModules (told dir) files × (is_too_large files ≡ true) → IsReport words told too_large
+report_of_too_large words told dir named found =
+    subst (λ d. IsReportNamed d told too_large) named (found.0, found.1, subst (λ b. IsReportBy b found.0 too_large) (sym found.2) refl)
 
--- and the only one, where the directory is told
-told_report : (told : Told) (sources : List Source) (report : Report) → AreModules told sources → report ≡ report_on sources → (P : Report → Type 0) → P report → IfSome (report_in told) P
-told_report Untold sources report are same P p = tt
-told_report Missing sources report are same P p = tt
-told_report (Holds files) sources report are same P p = subst P (same ∙ ap report_on are) p
+-- the report on the modules of the directory that the words name
+pub report_of_modules : (words : List (List ℕ)) (told : List ℕ → Told) (dir : List ℕ) (files : List File) (verdicts : List Verdict) → Some dir ≡ directory_of words →
+    AreModules (told dir) files × (is_too_large files ≡ false) → AreDecided files verdicts → IsReport words told (report_of (paired files verdicts))
+report_of_modules words told dir files verdicts named found decided =
+    let report = report_of (paired files verdicts) in
+    subst (λ d. IsReportNamed d told report) named
+    (files, found.0, subst (λ b. IsReportBy b files report) (sym found.1) (decided.all, decided.sources, ap report_of decided.right))
 
-pub only_report : (dir : Option (List ℕ)) (told : List ℕ → Told) (report : Report) → IsReportNamed dir told report → (P : Report → Type 0) → P report → IfSome (report_named dir told) P
-only_report None told report is P p = subst P is p
-only_report (Some dir) told report is P p = told_report (told dir) is.0 report is.1 is.2 P p
+-- the same, of modules that were read, shown and decided as slices
+pub report_of_read : (words : List (List ℕ)) (told : List ℕ → Told) (dir : List ℕ) (read shown given : List ModuleFile) (verdicts : List Verdict) → Some dir ≡ directory_of words →
+    AreModules (told dir) (map file_of read) × (is_too_large (map file_of read) ≡ false) → shown ≡ read → given ≡ read → AreDecided (map file_of given) verdicts →
+    IsReport words told (report_of (paired (map file_of shown) verdicts))
+report_of_read words told dir read shown given verdicts named found is_shown is_given decided =
+    subst (λ (files : List ModuleFile). IsReport words told (report_of (paired (map file_of files) verdicts))) (sym is_shown)
+    (report_of_modules words told dir (map file_of read) verdicts named found (subst (λ (files : List ModuleFile). AreDecided (map file_of files) verdicts) is_given decided))
+
+-- what was written of a report was written of each, where the directory is told
+pub exactly : (words : List (List ℕ)) (told : List ℕ → Told) (mine report : Report) (old new : Option (List ℕ)) (answer : Status) → IsReport words told mine → IsTold words told → IsReport words told report →
+    Appends old new mine.bytes × (answer ≡ mine.status) → Appends old new report.bytes × (answer ≡ report.status)
+exactly words told mine report old new answer is_mine holding is_report =
+    subst (λ (r : Report). Appends old new r.bytes × (answer ≡ r.status)) (one_report words told mine report holding is_mine is_report)
 
 pub writes_ended : (words : List (List ℕ)) (told : List ℕ → Told) (report : Report) (old new : Option (List ℕ)) (before now : ℕ) (answer : Status) → IsReport words told report → Writes report old new before now answer →
     HasEnded answer → WritesReport words told old new answer × (now ≡ before)

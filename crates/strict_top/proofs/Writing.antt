@@ -13,7 +13,7 @@ pub record HasWritten (bytes rest : List ℕ) (first now : Option (List ℕ)) (r
   pub taken : Takes room left (length front)
 
 -- nothing is written, and nothing taken
-appends_nothing : (written : Option (List ℕ)) → Appends written written []
+pub appends_nothing : (written : Option (List ℕ)) → Appends written written []
 appends_nothing None = refl
 appends_nothing (Some bytes) = ap Some (sym (append-nil bytes))
 

@@ -3,7 +3,7 @@ use Rattle.std.specs.Prelude.{ℕ, suc, Bool, if◌then◌else◌, List, [], ◌
 use Rattle.std.specs.Fmt.{decimal}
 use Rattle.std.specs.List.{list_any, flat_map}
 use Rattle.py_tree.specs.Codes.{printed}
-use Rattle.import_graph.specs.World.{Rules, rules_over, world}
+use Rattle.import_graph.specs.World.{rules_over, world}
 use Rattle.registry_core.specs.declared.sources.Sources.{Sources}
 use Rattle.module_load.specs.declared.source.Source.{Source}
 use Rattle.module_load.specs.declared.verdict.Verdict.{Verdict}

@@ -44,7 +44,7 @@ pub(crate) fn read_modules<F: Folder>(
     read_each(alloc, folder, dir, &names)
 }
 
-/// Reads the modules of these names, one after the other.
+/// Reads the modules of these names, one after the other, until their bytes are too many.
 fn read_each<F: Folder>(
     alloc: Global,
     folder: &mut F,

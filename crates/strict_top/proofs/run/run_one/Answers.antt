@@ -1,21 +1,17 @@
-use Rattle.std.proofs.Common.{◌∙◌, ap, map, refl, inr, string_bytes}
-use Rattle.strict_top.specs.Reports.{report_of, bad_words}
-use Rattle.strict_top.specs.Words.{directory_of}
-use Rattle.strict_top.specs.Steps.{view_of}
-use Rattle.strict_top.proofs.RunLemmas.{report_of_bad_words, report_on_modules, only_report, writes_exactly, writes_ended, writes_fault, writes_memory}
+use Rattle.std.proofs.Common.{map, refl, inr, string_bytes, subst}
+use Rattle.module_load.specs.Folders.{file_of}
+use Rattle.strict_top.specs.Reports.{report_of, bad_words, too_large}
+use Rattle.strict_top.specs.Steps.{IsFound, paired}
+use Rattle.strict_top.proofs.RunLemmas.{exactly, report_of_bad_words, report_of_read, report_of_too_large, writes_exactly, writes_ended, writes_fault, writes_memory}
+use Rattle.strict_top.proofs.Writing.{appends_nothing}
 use Rattle.strict_top.proofs.run.run_one.Goals as goal
+
+-- ---- words that aren't taken
 
 pub report_bad_words-requires : goal.report_bad_words-requires
 report_bad_words-requires g c =
     let words = map string_bytes c.args.words.now in
     λ room is. c.requires room is bad_words (report_of_bad_words words (g.F.Folder.told c.args.folder.now) c.in_default.ensures)
-
-pub returns-in_default-clause-exact : goal.returns-in_default-clause-exact
-returns-in_default-clause-exact g c =
-    let words = map string_bytes c.args.words.now in
-    let told = g.F.Folder.told c.args.folder.now in
-    only_report (directory_of words) told bad_words (report_of_bad_words words told c.in_default.ensures) _
-    (λ folder_calm sink_calm found. writes_exactly bad_words _ _ _ _ c.report_bad_words.result c.report_bad_words.ensures sink_calm found)
 
 pub returns-in_default-clause-ended : goal.returns-in_default-clause-ended
 returns-in_default-clause-ended g c =
@@ -35,44 +31,74 @@ returns-in_default-clause-out_of_memory g c =
     let report = report_of_bad_words words (g.F.Folder.told c.args.folder.now) c.in_default.ensures in
     λ is. let told = writes_memory words _ bad_words _ _ _ _ _ report c.report_bad_words.ensures is in (refl, told.0, inr told.1)
 
-pub report_decided-requires : goal.report_decided-requires
-report_decided-requires g c =
-    let words = map string_bytes c.args.words.now in
-    let read = c.in-Ok.ensures.decided in
-    let decided = map view_of c.deref.result.now in
-    λ room is. c.requires room is (report_of decided)
-    (report_on_modules words (g.F.Folder.told c.args.folder.now) c.in-Some.dir.now decided c.in-Some.ensures (read.0, read.1, ap (map view_of) c.deref.ensures.value ∙ read.2))
+-- ---- a directory that is too large
 
-pub returns-in-Ok-clause-exact : goal.returns-in-Ok-clause-exact
-returns-in-Ok-clause-exact g c =
+pub returns-in-Ok-TooLarge-clause-ended : goal.returns-in-Ok-TooLarge-clause-ended
+returns-in-Ok-TooLarge-clause-ended g c =
     let words = map string_bytes c.args.words.now in
     let told = g.F.Folder.told c.args.folder.now in
-    let read = c.in-Ok.ensures.decided in
-    let decided = map view_of c.deref.result.now in
-    let report = report_on_modules words told c.in-Some.dir.now decided c.in-Some.ensures (read.0, read.1, ap (map view_of) c.deref.ensures.value ∙ read.2) in
-    only_report (directory_of words) told (report_of decided) report _
-    (λ folder_calm sink_calm found. writes_exactly (report_of decided) _ _ _ _ c.report_decided.result c.report_decided.ensures sink_calm found)
+    let found = subst (IsFound (told c.in-Some.dir.now)) c.in-Ok-TooLarge.field-0-is c.in-Ok-TooLarge.ensures.found in
+    λ ended. record {
+      report = too_large;
+      is_report = report_of_too_large words told c.in-Some.dir.now c.in-Some.ensures found;
+      written = appends_nothing _;
+      answered = refl;
+    }
 
-pub returns-in-Ok-clause-ended : goal.returns-in-Ok-clause-ended
-returns-in-Ok-clause-ended g c =
-    let words = map string_bytes c.args.words.now in
-    let read = c.in-Ok.ensures.decided in
-    let decided = map view_of c.deref.result.now in
-    let report = report_on_modules words (g.F.Folder.told c.args.folder.now) c.in-Some.dir.now decided c.in-Some.ensures (read.0, read.1, ap (map view_of) c.deref.ensures.value ∙ read.2) in
-    λ ended. (writes_ended words _ (report_of decided) _ _ _ _ _ report c.report_decided.ensures ended).0
+-- ---- modules
 
-pub returns-in-Ok-clause-sink_fault : goal.returns-in-Ok-clause-sink_fault
-returns-in-Ok-clause-sink_fault g c =
+pub report_world-requires-clause-room : goal.report_world-requires-clause-room
+report_world-requires-clause-room g c =
     let words = map string_bytes c.args.words.now in
-    let read = c.in-Ok.ensures.decided in
-    let decided = map view_of c.deref.result.now in
-    let report = report_on_modules words (g.F.Folder.told c.args.folder.now) c.in-Some.dir.now decided c.in-Some.ensures (read.0, read.1, ap (map view_of) c.deref.ensures.value ∙ read.2) in
-    λ is. let told = writes_fault words _ (report_of decided) _ _ _ _ _ report c.report_decided.ensures is in (told.0, c.in-Ok.ensures.count, told.1)
+    let told = g.F.Folder.told c.args.folder.now in
+    let files = c.deref-2.result.now in
+    let verdicts = c.in-Ok.world in
+    let mine = report_of (paired (map file_of files) verdicts) in
+    let is_mine = report_of_read words told c.in-Some.dir.now c.in-Ok-Modules.files.items files c.deref.result.now verdicts c.in-Some.ensures
+    (subst (IsFound (told c.in-Some.dir.now)) c.in-Ok-Modules.field-0-is c.in-Ok-Modules.ensures.found) c.deref-2.ensures.value c.deref.ensures.value c.in-Ok.ensures in
+    λ room is. c.requires room is mine is_mine
 
-pub returns-in-Ok-clause-out_of_memory : goal.returns-in-Ok-clause-out_of_memory
-returns-in-Ok-clause-out_of_memory g c =
+pub returns-clause-exact : goal.returns-clause-exact
+returns-clause-exact g c =
     let words = map string_bytes c.args.words.now in
-    let read = c.in-Ok.ensures.decided in
-    let decided = map view_of c.deref.result.now in
-    let report = report_on_modules words (g.F.Folder.told c.args.folder.now) c.in-Some.dir.now decided c.in-Some.ensures (read.0, read.1, ap (map view_of) c.deref.ensures.value ∙ read.2) in
-    λ is. let told = writes_memory words _ (report_of decided) _ _ _ _ _ report c.report_decided.ensures is in (c.in-Ok.ensures.count, told.0, inr told.1)
+    let told = g.F.Folder.told c.args.folder.now in
+    let files = c.deref-2.result.now in
+    let verdicts = c.in-Ok.world in
+    let mine = report_of (paired (map file_of files) verdicts) in
+    let is_mine = report_of_read words told c.in-Some.dir.now c.in-Ok-Modules.files.items files c.deref.result.now verdicts c.in-Some.ensures
+    (subst (IsFound (told c.in-Some.dir.now)) c.in-Ok-Modules.field-0-is c.in-Ok-Modules.ensures.found) c.deref-2.ensures.value c.deref.ensures.value c.in-Ok.ensures in
+    λ holding report is_report folder_calm sink_calm found.
+    exactly words told mine report _ _ c.report_world.result is_mine holding is_report (writes_exactly mine _ _ _ _ c.report_world.result c.report_world.ensures sink_calm found)
+
+pub returns-clause-ended : goal.returns-clause-ended
+returns-clause-ended g c =
+    let words = map string_bytes c.args.words.now in
+    let told = g.F.Folder.told c.args.folder.now in
+    let files = c.deref-2.result.now in
+    let verdicts = c.in-Ok.world in
+    let mine = report_of (paired (map file_of files) verdicts) in
+    let is_mine = report_of_read words told c.in-Some.dir.now c.in-Ok-Modules.files.items files c.deref.result.now verdicts c.in-Some.ensures
+    (subst (IsFound (told c.in-Some.dir.now)) c.in-Ok-Modules.field-0-is c.in-Ok-Modules.ensures.found) c.deref-2.ensures.value c.deref.ensures.value c.in-Ok.ensures in
+    λ ended. (writes_ended words _ mine _ _ _ _ _ is_mine c.report_world.ensures ended).0
+
+pub returns-clause-sink_fault : goal.returns-clause-sink_fault
+returns-clause-sink_fault g c =
+    let words = map string_bytes c.args.words.now in
+    let told = g.F.Folder.told c.args.folder.now in
+    let files = c.deref-2.result.now in
+    let verdicts = c.in-Ok.world in
+    let mine = report_of (paired (map file_of files) verdicts) in
+    let is_mine = report_of_read words told c.in-Some.dir.now c.in-Ok-Modules.files.items files c.deref.result.now verdicts c.in-Some.ensures
+    (subst (IsFound (told c.in-Some.dir.now)) c.in-Ok-Modules.field-0-is c.in-Ok-Modules.ensures.found) c.deref-2.ensures.value c.deref.ensures.value c.in-Ok.ensures in
+    λ is. let fault = writes_fault words _ mine _ _ _ _ _ is_mine c.report_world.ensures is in (fault.0, c.in-Ok-Modules.ensures.count, fault.1)
+
+pub returns-clause-out_of_memory : goal.returns-clause-out_of_memory
+returns-clause-out_of_memory g c =
+    let words = map string_bytes c.args.words.now in
+    let told = g.F.Folder.told c.args.folder.now in
+    let files = c.deref-2.result.now in
+    let verdicts = c.in-Ok.world in
+    let mine = report_of (paired (map file_of files) verdicts) in
+    let is_mine = report_of_read words told c.in-Some.dir.now c.in-Ok-Modules.files.items files c.deref.result.now verdicts c.in-Some.ensures
+    (subst (IsFound (told c.in-Some.dir.now)) c.in-Ok-Modules.field-0-is c.in-Ok-Modules.ensures.found) c.deref-2.ensures.value c.deref.ensures.value c.in-Ok.ensures in
+    λ is. let memory = writes_memory words _ mine _ _ _ _ _ is_mine c.report_world.ensures is in (c.in-Ok-Modules.ensures.count, memory.0, inr memory.1)

@@ -1,20 +1,17 @@
-use Rattle.std.proofs.Common.{rules, sym, ap, ◌∙◌}
+use Rattle.std.proofs.Common.{ap, sym, map, ◌∙◌}
 use Rattle.std.specs.Bool.{if◌then◌else◌}
-use Rattle.std.proofs.lemmas.Iterator.{YieldsList-from_slice}
-use Rattle.std.proofs.lemmas.Iterator.Search.{any_from_yields_List}
-use borrow.Author.Tests.{tests}
+use Rattle.std.proofs.lemmas.List.{length-map}
+use Rattle.module_load.specs.Folders.{file_of}
 use Rattle.strict_top.specs.declared.status.Status.TheVariants.{Done, Refused}
-use Rattle.strict_top.specs.Reports.{is_refused_module}
-use Rattle.strict_top.specs.Steps.{view_of}
-use Rattle.strict_top.proofs.ReportLemmas.{any_viewed}
+use Rattle.strict_top.proofs.ReportLemmas.{any_paired}
 use Rattle.strict_top.proofs.run.status_of.Goals as goal
 
-pub returns-then-any : goal.returns-then-any
-returns-then-any c =
-    let found = any_from_yields_List (λ entry. is_refused_module (view_of entry)) _ _ _ c.any.ensures.ran (YieldsList-from_slice _ c.iter.ensures.rest) (λ x b q k. search (rules, tests)) in
-    ap (λ b. if b then Refused else Done) (sym c.if-any.true ∙ found ∙ any_viewed c.args.decided.now)
+pub returns-then-some_refused : goal.returns-then-some_refused
+returns-then-some_refused c =
+    let any = any_paired (map file_of c.args.files.now) c.args.world.now (c.requires.each ∙ sym (length-map c.args.files.now file_of)) in
+    ap (λ b. if b then Refused else Done) (sym c.if-some_refused.true ∙ c.some_refused.ensures ∙ sym any)
 
-pub returns-else-any : goal.returns-else-any
-returns-else-any c =
-    let found = any_from_yields_List (λ entry. is_refused_module (view_of entry)) _ _ _ c.any.ensures.ran (YieldsList-from_slice _ c.iter.ensures.rest) (λ x b q k. search (rules, tests)) in
-    ap (λ b. if b then Refused else Done) (sym c.if-any.false ∙ found ∙ any_viewed c.args.decided.now)
+pub returns-else-some_refused : goal.returns-else-some_refused
+returns-else-some_refused c =
+    let any = any_paired (map file_of c.args.files.now) c.args.world.now (c.requires.each ∙ sym (length-map c.args.files.now file_of)) in
+    ap (λ b. if b then Refused else Done) (sym c.if-some_refused.false ∙ c.some_refused.ensures ∙ sym any)
