@@ -15,6 +15,7 @@ use std::alloc::{AllocError, Global};
 /// How the modules of a folder are loaded: which is plain, which is refused at which line by which code, and which is published.
 #[derive(Clone, Copy)]
 pub struct StrictPython {
+    /// What a loaded module takes its memory from.
     pub alloc: Global,
 }
 

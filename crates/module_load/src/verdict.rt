@@ -15,6 +15,7 @@ pub enum Verdict {
 }
 
 impl Verdict {
+    /// Whether the module is refused. One that is plain isn't.
     pub fn is_refused(&self) -> bool
         ensures { result ≡ is_refused self.now }
     {
