@@ -74,6 +74,10 @@ fn no_name_is_slot_and_method_along_the_bases(rt: HostRuntime) -> Result<(), Fai
                 "N11 on 3",
             ),
             ("class A(KeyError):\n def args(self): pass", "N11 on 1"),
+            (
+                "class A:\n x: int\nclass B(A): pass\nclass C(B): pass\nclass F(C):\n def x(self): pass",
+                "N11 on 5",
+            ),
         ],
     )
 }
@@ -105,6 +109,15 @@ fn definitions_are_bound_once(rt: HostRuntime) -> Result<(), Fail> {
             ),
             ("def f(a, b, a): pass", "N16 on 1"),
             ("class A:\n def f(self, self): pass", "N16 on 2"),
+            // With an alias a marker is a module like another.
+            (
+                "x = 1\nimport __static__ as s\nimport __static__ as s",
+                "N18 on 2",
+            ),
+            (
+                "def s(): pass\nimport __static__ as s",
+                "N16 on 2",
+            ),
         ],
     )
 }
@@ -178,6 +191,25 @@ fn special_names_have_their_places(rt: HostRuntime) -> Result<(), Fail> {
         &[
             ("__all__ = f(__all__=__all__).__all__\nx.__all__ = 1", ""),
             ("import __all__\ndef f(__all__): pass", ""),
+            ("for __all__ in a: pass", ""),
+            ("try: pass\nexcept KeyError as __all__: pass", ""),
+            ("import a as __all__", ""),
+            ("from a import __all__", ""),
+            ("class __all__: pass", ""),
+            ("def __all__(): pass", ""),
+            ("for __name__ in a: pass", "N19 on 1"),
+            ("try: pass\nexcept KeyError as __name__: pass", "N19 on 1"),
+            ("import __name__", "N19 on 1"),
+            ("import a as __name__", "N19 on 1"),
+            ("from a import __name__", "N19 on 1"),
+            ("class __name__: pass", "N19 on 1"),
+            ("for __init__ in a: pass", "N19 on 1"),
+            ("try: pass\nexcept KeyError as __init__: pass", "N19 on 1"),
+            ("import __init__", "N19 on 1"),
+            ("import a as __init__", "N19 on 1"),
+            ("from a import __init__", "N19 on 1"),
+            ("class __init__: pass", "N19 on 1"),
+            ("def f(__init__): pass", "N19 on 1"),
             ("class A:\n __all__: int", ""),
             ("class A:\n def __all__(self): pass", ""),
             ("x = __name__\ny = x.__name__", ""),
@@ -263,24 +295,33 @@ fn static_names_stand_in_their_forms(rt: HostRuntime) -> Result<(), Fail> {
             ("from typing import Any\ndef f(Any): return Any", ""),
             ("from m import Any\nx = Any", ""),
             (
-                "from __static__ import int64, cbool\nx: int64 = int64(1)\ny: cbool = cbool(x)",
+                "import __static__\nfrom __static__ import int64, cbool\nx: int64 = int64(1)\ny: cbool = cbool(x)",
                 "",
             ),
-            ("from __static__ import int64\nx = f(int64)", "N19 on 2"),
-            ("from __static__ import cbool\nx = cbool.y", "N19 on 2"),
-            ("from __static__ import box\nx = box(1)", ""),
-            ("from __static__ import box\nx: box", "N19 on 2"),
+            ("import __static__\nfrom __static__ import int64\nx = f(int64)", "N19 on 3"),
+            ("import __static__\nfrom __static__ import cbool\nx = cbool.y", "N19 on 3"),
+            ("import __static__\nfrom __static__ import box\nx = box(1)", ""),
+            ("import __static__\nfrom __static__ import box\nx: box", "N19 on 3"),
             (
-                "from typing import Any\nfrom __static__ import cast\nx = cast(Any, y)",
+                "import __static__\nfrom typing import Any\nfrom __static__ import cast\nx = cast(Any, y)",
                 "",
             ),
             (
-                "from typing import Any\nfrom __static__ import cast\nx = cast(y, Any)",
+                "import __static__\nfrom typing import Any\nfrom __static__ import cast\nx = cast(y, Any)",
+                "N19 on 4",
+            ),
+            ("import __static__\nfrom __static__ import cast\nx: cast", "N19 on 3"),
+            (
+                "import __static__\nfrom __static__ import cast, box\nx = cast(box, y)",
                 "N19 on 3",
             ),
-            ("from __static__ import cast\nx: cast", "N19 on 2"),
+            // In a strict module these are names like others, and the import is one below the top part.
             (
-                "from __static__ import cast, box\nx = cast(box, y)",
+                "import __strict__\nx = int64\nfrom __static__ import int64",
+                "N18 on 3",
+            ),
+            (
+                "import __static__\nx = int64\nfrom __static__ import int64",
                 "N19 on 2",
             ),
         ],

@@ -239,20 +239,20 @@ fn uses_of_static_names_have_their_lines(rt: HostRuntime) -> Result<(), Fail> {
                 "2 Optional\n3 Any\n3 Optional\n3 Any\n4 Optional\n",
             ),
             (
-                "from __static__ import int64, cbool, box, cast\nx = box(int64(1))\ny = f(cast(cbool, x))",
-                "2 box\n2 int64\n3 cast\n3 cbool\n",
+                "import __static__\nfrom __static__ import int64, cbool, box, cast\nx = box(int64(1))\ny = f(cast(cbool, x))",
+                "3 box\n3 int64\n4 cast\n4 cbool\n",
             ),
             (
-                "from __static__ import box\nif box(1): pass\nelif box(2): pass",
-                "2 box\n3 box\n",
+                "import __static__\nfrom __static__ import box, int64\nif box(1):\n x = int64(2)\nelif box(3): pass",
+                "3 box\n4 int64\n5 box\n",
             ),
             (
-                "from __static__ import box\ntry: pass\nexcept box(1): pass",
-                "2 box\n",
+                "import __static__\nfrom __static__ import box, int64\ntry: x = int64(1)\nexcept box(1): pass",
+                "3 int64\n3 box\n",
             ),
             (
-                "from __static__ import box\ndef f(a):\n box = a\n return box\ndef g(a): return box(a)",
-                "5 box\n",
+                "import __static__\nfrom __static__ import box\ndef f(a):\n box = a\n return box\ndef g(a): return box(a)",
+                "6 box\n",
             ),
             (
                 "from typing import Any\nclass A:\n x: Any\n def f(self, a: Any): pass",
@@ -268,6 +268,8 @@ fn a_module_that_imports_static_is_static(rt: HostRuntime) -> Result<(), Fail> {
         ("import __strict__", ModuleKind::Strict),
         ("import __static__", ModuleKind::Static),
         ("'doc'\nimport a\nimport __static__", ModuleKind::Static),
+        ("import __static__ as s", ModuleKind::Strict),
+        ("import a, __static__", ModuleKind::Strict),
     ] {
         match names(rt.alloc(), text) {
             Ok(names) => assert_eq!(rt; names.kind, want, "at {text}"),

@@ -5,7 +5,6 @@ pub mod Again
 pub mod FirstOnes
 pub mod PartFaults
 pub mod Trees
-pub mod Statics
 pub mod Arguments
 pub mod OneBinding
 pub mod Places

@@ -8,6 +8,7 @@ use Rattle.py_tree.specs.declared.fault.Fault.{Fault}
 use Rattle.symbols.specs.declared.outer.Outer.{Outer}
 use Rattle.symbols.specs.declared.parts.Parts.{Parts}
 use Rattle.symbols.specs.Faults.{bad_lines, bound_again, clash_lines, coded, faults, import_lines, imports_of, in_class, is_definition, repeated_params}
+use Rattle.symbols.specs.ModuleKinds.{module_kind}
 use Rattle.symbols.specs.Parts.{IsPartsOf, faults_of, twice_lines, late_lines, special_in}
 use Rattle.symbols.specs.SpecialNames.{context_in, module_lines}
 
@@ -20,4 +21,4 @@ faults_are o body p is =
     ∙ (λ i. coded BadBase (bad_lines (is.found i)) ++ (coded MemberClash (clash_lines (is.found i))
     ++ (coded BoundTwice (bound_again is_definition (is.bound i) ++ (flat_map in_class (is.inside i) ++ repeated_params (is.defined i)))
     ++ (coded LateImport (import_lines (below_top_part (is.statements i)) ++ imports_of (is.defined i))
-    ++ coded SpecialName (flat_map (module_lines (context_in (is.bound i))) (is.inside i))))))
+    ++ coded SpecialName (flat_map (module_lines (context_in (module_kind (is.statements i)) (is.bound i))) (is.inside i))))))

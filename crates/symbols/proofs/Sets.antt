@@ -1,5 +1,4 @@
 -- Names as a set: what it holds after some are put into it in turn.
-use Rattle.std.specs.Prelude.{if◌then◌else◌}
 use Rattle.std.proofs.Common.{◌≡◌, ℕ, Bool, true, false, not, ◌&&◌, ◌||◌, List, [], ◌∷◌, ◌++◌, map, length, get_or, drop, ◌+◌, ◌<◌, filter, Bor, refl, sym, ap, ◌∙◌, subst, append_assoc}
 use Rattle.std.proofs.lemmas.List.{append-nil, map-append, length-map, at_drop_more}
 use Rattle.std.proofs.lemmas.List.Folds.{list_any-append}

@@ -1,5 +1,5 @@
 -- What a function and a class of the tree stand for, by their parts.
-use Rattle.std.proofs.Common.{◌≡◌, List, map}
+use Rattle.std.proofs.Common.{◌≡◌, map}
 use Rattle.py_tree.specs.Syntax as x
 use Rattle.py_tree.specs.Joined.{class_of, function_of, maybe_of, param_of, statements_of, kind_step, branch_step, class_step, clause_step, function_step, statement_step}
 use Rattle.py_tree.specs.declared.statement.Function.{Function, out-Function}

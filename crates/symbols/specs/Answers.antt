@@ -1,5 +1,5 @@
 -- What is answered of a module's names.
-use Rattle.std.specs.Prelude.{◌≡◌, List, [], ◌∷◌, Result, Ok, Err}
+use Rattle.std.specs.Prelude.{◌≡◌, [], Result, Ok, Err}
 use Rattle.py_tree.specs.Joined.{module_of}
 use Rattle.py_tree.specs.Codes.{number_of}
 use Rattle.py_tree.specs.declared.fault.Fault.{Fault}

@@ -1,5 +1,5 @@
 -- The bindings of a scope, in the order of the text.
-use Rattle.std.specs.Prelude.{ℕ, Bool, not, if◌then◌else◌, List, [], ◌∷◌, ◌++◌, map, codes, Option, Some, None, is_none}
+use Rattle.std.specs.Prelude.{ℕ, Bool, not, ◌&&◌, if◌then◌else◌, List, [], ◌∷◌, ◌++◌, map, codes, Option, Some, None, is_none}
 use Rattle.std.specs.List.{filter, flat_map}
 use Rattle.std.specs.Str.{bytes_eq}
 use Rattle.py_tree.specs.Syntax as x
@@ -7,7 +7,6 @@ use Rattle.py_tree.specs.Syntax.{Text, Param, Target, Kind, Statements, Branches
 use Rattle.py_tree.specs.declared.statement.Import.{Import}
 use Rattle.symbols.specs.declared.binding.BindingKind.{BindingKind}
 use Rattle.symbols.specs.declared.binding.BindingKind.TheVariants as by
-use Rattle.symbols.specs.declared.binding.StaticName.{StaticName}
 use Rattle.symbols.specs.declared.binding.Binding.{Binding}
 use Rattle.symbols.specs.Words.{is_marker, static_name}
 
@@ -20,9 +19,12 @@ abbrev pub alias_or : Option Text → Text → Text
 alias_or None name = name
 alias_or (Some alias) name = alias
 
+abbrev pub is_marker_import : Import → Bool
+is_marker_import i = is_none i.alias && is_marker i.name
+
 -- a marker binds nothing
 abbrev pub module_binding : ℕ → Import → List Binding
-module_binding line i = if is_marker i.name then [] else bound line by.Import (alias_or i.alias i.name) ∷ []
+module_binding line i = if is_marker_import i then [] else bound line by.Import (alias_or i.alias i.name) ∷ []
 
 abbrev pub member_binding : ℕ → Text → Import → Binding
 member_binding line from i = record { name = alias_or i.alias i.name; line = line; kind = by.Import; static_name = static_name from i.name }

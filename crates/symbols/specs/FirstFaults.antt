@@ -1,5 +1,5 @@
 -- No definition of the language: the first fault of a list, if it has one, and the test by which it is found.
-use Rattle.std.specs.Prelude.{◌≡◌, ℕ, Bool, ◌&&◌, ◌||◌, ◌==◌, nat_lt, nat_le, List, [], Option, Some, None}
+use Rattle.std.specs.Prelude.{◌≡◌, Bool, ◌&&◌, ◌||◌, ◌==◌, nat_lt, nat_le, List, [], Option, Some, None}
 use Rattle.py_tree.specs.Codes.{number_of}
 use Rattle.py_tree.specs.declared.fault.Fault.{Fault}
 use Rattle.symbols.specs.Faults.{IsFirst}

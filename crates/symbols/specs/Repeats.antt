@@ -1,9 +1,8 @@
 -- No definition of the language: what is known of the bindings of one name.
-use Rattle.std.specs.Prelude.{◌≡◌, ℕ, Bool, List, [], ◌∷◌, Option, Some, None, cond, option_to_list}
-use Rattle.std.specs.List.{list_any, flat_map, filter}
+use Rattle.std.specs.Prelude.{◌≡◌, ℕ, List, [], ◌∷◌, Option, Some, None, cond, option_to_list}
+use Rattle.std.specs.List.{list_any}
 use Rattle.symbols.specs.declared.binding.Binding.{Binding}
 use Rattle.symbols.specs.declared.repeats.Repeats.{Repeats}
-use Rattle.symbols.specs.Bindings.{first_mentions, names_of}
 use Rattle.symbols.specs.Faults.{bound_again}
 use Rattle.symbols.specs.Kinds.{flag, meets}
 

@@ -10,8 +10,11 @@ use Rattle.symbols.specs.declared.binding.Binding.{Binding}
 use Rattle.symbols.specs.declared.binding.StaticName.{StaticName}
 use Rattle.symbols.specs.declared.binding.StaticName.TheVariants as static
 use Rattle.symbols.specs.declared.context.Use.{Use}
-use Rattle.symbols.specs.Words.{among, is_builtin, is_special, is_private, is_marker}
-use Rattle.symbols.specs.Bindings.{bindings, locals_of, alias_or}
+use Rattle.symbols.specs.declared.resolved.ModuleKind.{ModuleKind}
+use Rattle.symbols.specs.declared.resolved.ModuleKind.TheVariants as kind
+use Rattle.symbols.specs.Words.{among, is_builtin, is_special, is_private}
+use Rattle.symbols.specs.Bindings.{bindings, locals_of, alias_or, is_marker_import}
+use Rattle.symbols.specs.ModuleKinds.{module_kind}
 
 -- where names stand
 pub record Context : Type 0 where
@@ -20,21 +23,28 @@ pub record Context : Type 0 where
   pub statics : Text → Option StaticName  -- what the module binds to static names
   pub locals : List Text  -- of the function, which hide them
 
-abbrev pub is_static : Binding → Bool
-is_static b = is_some b.static_name
+-- the names of `typing` are static names in every module, those of `__static__` in a static one
+abbrev pub static_under : ModuleKind → Option StaticName → Option StaticName
+static_under kind.Static name = name
+static_under kind.Strict (Some static.Optional) = Some static.Optional
+static_under kind.Strict (Some static.Any) = Some static.Any
+static_under kind.Strict name = None
+
+abbrev pub static_by : ModuleKind → Binding → Option StaticName
+static_by kind b = static_under kind b.static_name
 
 -- the static name to which a name is bound among these bindings
-abbrev pub static_in : List Binding → Text → Option StaticName
-static_in bs name = static_or (find (λ b. bytes_eq name b.name) (filter is_static bs)) where
+abbrev pub static_in : ModuleKind → List Binding → Text → Option StaticName
+static_in kind bs name = static_or (find (λ b. bytes_eq name b.name) (filter (λ b. is_some (static_by kind b)) bs)) where
   static_or : Option Binding → Option StaticName
   static_or None = None
-  static_or (Some b) = b.static_name
+  static_or (Some b) = static_by kind b
 
-abbrev pub context_in : List Binding → Context
-context_in bs = record { in_class = false; in_method = false; statics = static_in bs; locals = [] }
+abbrev pub context_in : ModuleKind → List Binding → Context
+context_in kind bs = record { in_class = false; in_method = false; statics = static_in kind bs; locals = [] }
 
 abbrev pub module_context : Statements → Context
-module_context body = context_in (bindings body)
+module_context body = context_in (module_kind body) (bindings body)
 
 abbrev pub in_class_body : Context → Context
 in_class_body c = record c { in_class = true }
@@ -200,7 +210,7 @@ abbrev pub member_special : Context → Import → Bool
 member_special c i = forbidden c (all_special ∷ []) i.name || forbidden_binding c (alias_or i.alias i.name)
 
 abbrev pub module_special : Context → Import → Bool
-module_special c i = not (is_marker i.name) && member_special c i
+module_special c i = not (is_marker_import i) && member_special c i
 
 abbrev pub from_special : Context → Text → List Import → Bool
 from_special c from is = not (bytes_eq from (codes "__future__")) && list_any (member_special c) is

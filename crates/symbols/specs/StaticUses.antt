@@ -1,14 +1,15 @@
 -- The uses of static names: of each name in an expression, in the order of the text, that is a static name there, with the line at which a
--- fault in it is reported. The conditions of an `if` and the clauses of a `try` stand before their blocks.
+-- fault in it is reported.
 use Rattle.std.specs.Prelude.{ℕ, List, [], ◌∷◌, ◌++◌, Option, Some, None}
 use Rattle.std.specs.List.{flat_map}
 use Rattle.py_tree.specs.Syntax as x
-use Rattle.py_tree.specs.Syntax.{Text, Expression, Expressions, Pairs, Keywords, Param, Target, Kind, Statement, Statements, Branches, Clauses, Function, ClassDef}
-use Rattle.py_tree.specs.Order.{of_scope}
+use Rattle.py_tree.specs.Syntax.{Text, Expression, Expressions, Pairs, Keywords, Param, Target, Kind, Statements, Branches, Clauses, Function, ClassDef}
 use Rattle.symbols.specs.declared.binding.Binding.{Binding}
 use Rattle.symbols.specs.declared.binding.StaticName.{StaticName}
+use Rattle.symbols.specs.declared.resolved.ModuleKind.{ModuleKind}
 use Rattle.symbols.specs.declared.static_use.StaticUse.{StaticUse}
 use Rattle.symbols.specs.Bindings.{bindings}
+use Rattle.symbols.specs.ModuleKinds.{module_kind}
 use Rattle.symbols.specs.SpecialNames.{Context, context_in, in_class_body, in_function_body, static_of}
 
 abbrev pub use_at : ℕ → Option StaticName → List StaticUse
@@ -67,62 +68,46 @@ param_uses c line p = maybe_uses c line p.kind ++ maybe_uses c line p.default
 abbrev pub signature_uses : Context → ℕ → List Param → Option Expression → List StaticUse
 signature_uses c line params result = flat_map (param_uses c line) params ++ maybe_uses c line result
 
-abbrev pub branch_uses : Context → Branches → List StaticUse
-branch_uses c x.end_of_branches = []
-branch_uses c (x.more_branches (x.Tested line test body) rest) = uses c line test ++ branch_uses c rest
+-- of a block and of the blocks in it, the bodies of defs and classes among them
+abbrev mutual
+  pub block_uses : Context → Statements → List StaticUse
+  block_uses c x.end_of_statements = []
+  block_uses c (x.more_statements (x.On line kind) rest) = statement_uses c line kind ++ block_uses c rest
 
-abbrev pub clause_uses : Context → ℕ → Clauses → List StaticUse
-clause_uses c line x.end_of_clauses = []
-clause_uses c line (x.more_clauses (x.Except matches name body) rest) = maybe_uses c line matches ++ clause_uses c line rest
+  pub statement_uses : Context → ℕ → Kind → List StaticUse
+  statement_uses c line (x.Return value) = maybe_uses c line value
+  statement_uses c line (x.Raise value) = maybe_uses c line value
+  statement_uses c line (x.Eval e) = uses c line e
+  statement_uses c line (x.Assign t e) = pair_uses c line t e
+  statement_uses c line (x.Annotate t kind value) = pair_uses c line t kind ++ maybe_uses c line value
+  statement_uses c line (x.Augment t op e) = pair_uses c line t e
+  statement_uses c line (x.If tested orelse) = branches_uses c tested ++ block_uses c orelse
+  statement_uses c line (x.While test body) = uses c line test ++ block_uses c body
+  statement_uses c line (x.For t e body) = pair_uses c line t e ++ block_uses c body
+  statement_uses c line (x.Try body handlers) = block_uses c body ++ clauses_uses c line handlers
+  statement_uses c line (x.Def f) = function_uses c line f
+  statement_uses c line (x.Class class) = class_uses c line class
+  statement_uses c line _ = []
 
--- in a statement itself, and in no block of it
-abbrev pub own_uses : Context → ℕ → Kind → List StaticUse
-own_uses c line (x.Return value) = maybe_uses c line value
-own_uses c line (x.Raise value) = maybe_uses c line value
-own_uses c line (x.Eval e) = uses c line e
-own_uses c line (x.Assign t e) = pair_uses c line t e
-own_uses c line (x.Annotate t kind value) = pair_uses c line t kind ++ maybe_uses c line value
-own_uses c line (x.Augment t op e) = pair_uses c line t e
-own_uses c line (x.If tested orelse) = branch_uses c tested
-own_uses c line (x.While test body) = uses c line test
-own_uses c line (x.For t e body) = pair_uses c line t e
-own_uses c line (x.Try body handlers) = clause_uses c line handlers
-own_uses c line (x.Def (x.Defined name params result body)) = signature_uses c line params result
-own_uses c line (x.Class (x.Classed name base body)) = maybe_uses c line base
-own_uses c line _ = []
+  pub branches_uses : Context → Branches → List StaticUse
+  branches_uses c x.end_of_branches = []
+  branches_uses c (x.more_branches (x.Tested line test body) rest) = uses c line test ++ (block_uses c body ++ branches_uses c rest)
 
-abbrev pub statement_uses : Context → Statement → List StaticUse
-statement_uses c (x.On line kind) = own_uses c line kind
+  -- a clause has the line of its `try`
+  pub clauses_uses : Context → ℕ → Clauses → List StaticUse
+  clauses_uses c line x.end_of_clauses = []
+  clauses_uses c line (x.more_clauses (x.Except matches name body) rest) = maybe_uses c line matches ++ (block_uses c body ++ clauses_uses c line rest)
 
--- in the body of a function
-abbrev pub scope_uses : Context → Statements → List StaticUse
-scope_uses c body = flat_map (statement_uses c) (of_scope body)
+  -- the signature stands outside the function
+  pub function_uses : Context → ℕ → Function → List StaticUse
+  function_uses c line (x.Defined name params result body) = signature_uses c line params result ++ block_uses (in_function_body c params body) body
 
-abbrev pub body_uses : Context → Function → List StaticUse
-body_uses c (x.Defined name params result body) = scope_uses (in_function_body c params body) body
+  pub class_uses : Context → ℕ → ClassDef → List StaticUse
+  class_uses c line (x.Classed name base body) = maybe_uses c line base ++ block_uses (in_class_body c) body
 
--- in a class body
-abbrev pub member_kind_uses : Context → Kind → List StaticUse
-member_kind_uses c (x.Def f) = body_uses c f
-member_kind_uses c kind = []
-
-abbrev pub member_uses : Context → Statement → List StaticUse
-member_uses c (x.On line kind) = own_uses c line kind ++ member_kind_uses c kind
-
-abbrev pub class_uses : Context → ClassDef → List StaticUse
-class_uses c (x.Classed name base body) = flat_map (member_uses (in_class_body c)) (of_scope body)
-
-abbrev pub within_uses : Context → Kind → List StaticUse
-within_uses c (x.Def f) = body_uses c f
-within_uses c (x.Class class) = class_uses c class
-within_uses c kind = []
-
-abbrev pub module_uses : Context → Statement → List StaticUse
-module_uses c (x.On line kind) = own_uses c line kind ++ within_uses c kind
-
--- of a module, of its functions and of its classes
-abbrev pub uses_with : List Binding → List Statement → List StaticUse
-uses_with bs scope = flat_map (module_uses (context_in bs)) scope
+-- of a module
+abbrev pub uses_with : ModuleKind → List Binding → Statements → List StaticUse
+uses_with kind bs body = block_uses (context_in kind bs) body
 
 abbrev pub static_uses : Statements → List StaticUse
-static_uses body = uses_with (bindings body) (of_scope body)
+static_uses body = uses_with (module_kind body) (bindings body) body

@@ -146,7 +146,7 @@ fn put_modules(
     ensures { OnOk result (all.new ≡ all.old ++ flat_map (module_binding line) imports.now) }
 {
     for import in imports {
-        if !is_marker(&import.name) {
+        if !is_marker_import(import) {
             put_name(alloc, line, BindingKind::Import, bound_name(import), all)?;
         }
     }
@@ -187,6 +187,13 @@ fn put_each_member(
         })?;
     }
     Ok(())
+}
+
+/// Whether a module that is imported is a marker. One with an alias is none.
+pub fn is_marker_import(import: &Import) -> bool
+    ensures { result ≡ spec.is_marker_import import.now }
+{
+    import.alias.is_none() && is_marker(&import.name)
 }
 
 /// The name that an import binds.

@@ -4,12 +4,13 @@ ghost use Rattle.py_tree.specs.Joined.{param_of};
 ghost use Rattle.py_tree.specs.Syntax.{Text as Name};
 ghost use Rattle.symbols.specs.Bindings.{first_mentions, is_global, names_of, param_names};
 ghost use Rattle.symbols.specs.Names.{found, with_names};
-ghost use Rattle.symbols.specs.SpecialNames.{static_in};
+ghost use Rattle.symbols.specs.SpecialNames.{static_in, static_under};
 
-use crate::binding::Binding;
+use crate::binding::{Binding, StaticName};
 use crate::context::Statics;
 use crate::name_map::NameMap;
 use crate::names::Names;
+use crate::resolved::ModuleKind;
 use py_tree::expression::Param;
 use std::alloc::{AllocError, Global};
 
@@ -60,15 +61,31 @@ fn add_bound<'a>(bindings: &'a [Binding], names: &mut Names<'a>) -> Result<(), A
     Ok(())
 }
 
-/// What a module with these bindings binds to static names.
-pub(crate) fn statics_of(alloc: Global, bindings: &[Binding]) -> Result<Statics<'_>, AllocError>
-    ensures { IfOk result (λ statics. (name : Name) → found statics name ≡ static_in bindings.now name) }
+/// What a module of this kind with these bindings binds to static names.
+pub(crate) fn statics_of(
+    alloc: Global,
+    kind: ModuleKind,
+    bindings: &[Binding],
+) -> Result<Statics<'_>, AllocError>
+    ensures { IfOk result (λ statics. (name : Name) → found statics name ≡ static_in kind bindings.now name) }
 {
     let mut statics = NameMap::new(alloc);
     for binding in bindings {
-        if let Some(kind) = binding.static_name {
-            statics.keep(&binding.name, kind)?;
+        if let Some(name) = static_under(kind, binding.static_name) {
+            statics.keep(&binding.name, name)?;
         }
     }
     Ok(statics)
+}
+
+/// The names of `typing` are static names in every module, those of `__static__` in a static one.
+fn static_under(kind: ModuleKind, name: Option<StaticName>) -> Option<StaticName>
+    ensures { result ≡ static_under kind name }
+{
+    match (kind, name) {
+        (ModuleKind::Static, name) => name,
+        (ModuleKind::Strict, Some(StaticName::Optional)) => Some(StaticName::Optional),
+        (ModuleKind::Strict, Some(StaticName::Any)) => Some(StaticName::Any),
+        (ModuleKind::Strict, _) => None,
+    }
 }

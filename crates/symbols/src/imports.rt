@@ -1,11 +1,9 @@
-ghost use Rattle.std.specs.Prelude.{◌≡◌, ◌++◌, IfOk, OnOk, codes};
+ghost use Rattle.std.specs.Prelude.{◌≡◌, ◌++◌, IfOk, OnOk};
 ghost use Rattle.std.specs.List.{flat_map, list_any};
-ghost use Rattle.std.specs.Str.{bytes_eq};
 ghost use Rattle.py_tree.specs.Joined.{function_of, kind_of, statements_of};
 ghost use Rattle.py_tree.specs.TopPart as top;
 ghost use Rattle.symbols.specs.Faults as spec;
-ghost use Rattle.py_tree.specs.declared.statement.Import.{Import as Imported};
-ghost use Rattle.symbols.specs.ModuleKinds.{imports_static, module_kind, names_static};
+ghost use Rattle.symbols.specs.ModuleKinds.{imports_static, is_static_marker, module_kind, names_static};
 ghost use Rattle.symbols.specs.Located.{located};
 ghost use Rattle.symbols.specs.Views.{seen};
 
@@ -87,20 +85,18 @@ fn names_static(kind: &StmtKind) -> bool
     ensures { result ≡ names_static (kind_of kind.now) }
 {
     match kind {
-        StmtKind::Import(names) => any_is_static(names.as_slice()),
+        StmtKind::Import(names) => is_static_marker(names.as_slice()),
         _ => false,
     }
 }
 
-fn any_is_static(names: &[Import]) -> bool
-    ensures { result ≡ list_any (λ (i : Imported). bytes_eq i.name (codes "__static__")) names.now }
+fn is_static_marker(names: &[Import]) -> bool
+    ensures { result ≡ is_static_marker names.now }
 {
-    for import in names {
-        if is_word(&import.name, b"__static__") {
-            return true;
-        }
+    match names {
+        [import] => import.alias.is_none() && is_word(&import.name, b"__static__"),
+        _ => false,
     }
-    false
 }
 
 /// Whether it is an import statement.

@@ -15,9 +15,10 @@ use crate::class_faults::{bad_lines, clash_lines, put_repeated_members};
 use crate::context::{Context, Statics};
 use crate::first_fault::{Faults, first_of, put_faults};
 use crate::functions::{FunctionAt, repeated_params};
-use crate::imports::late_imports;
+use crate::imports::{late_imports, module_kind};
 use crate::names::Names;
 use crate::repeats::definitions_again;
+use crate::resolved::ModuleKind;
 use crate::special_lines::{Lines, special_lines};
 use py_tree::code::Code;
 use py_tree::fault::Fault;
@@ -82,16 +83,21 @@ impl<'a> Parts<'a> {
     fn put_special_names(&self, alloc: Global, faults: &mut Faults) -> Result<(), AllocError>
         ensures { OnOk result (faults.new ≡ faults.old ++ coded code.SpecialName (special_in self.now)) }
     {
-        let lines = special_names(alloc, self.bindings, self.scope)?;
+        let lines = special_names(alloc, module_kind(self.body), self.bindings, self.scope)?;
         put_faults(Code::SpecialName, lines.as_slice(), faults)
     }
 }
 
-/// The lines of names that stand where they may not, in a module with these bindings.
-fn special_names(alloc: Global, bindings: &[Binding], scope: &[&Stmt]) -> Result<Lines, AllocError>
-    ensures { IfOk result (λ lines. lines ≡ special_with bindings.now (seen scope.now)) }
+/// The lines of names that stand where they may not, in a module of this kind with these bindings.
+fn special_names(
+    alloc: Global,
+    kind: ModuleKind,
+    bindings: &[Binding],
+    scope: &[&Stmt],
+) -> Result<Lines, AllocError>
+    ensures { IfOk result (λ lines. lines ≡ special_with kind bindings.now (seen scope.now)) }
 {
-    let statics = statics_of(alloc, bindings)?;
+    let statics = statics_of(alloc, kind, bindings)?;
     special_under(alloc, &statics, scope)
 }
 

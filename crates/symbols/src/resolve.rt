@@ -92,14 +92,15 @@ fn listed(
     let globals = global_names(alloc, parts.bindings)?;
     let classes = copy_classes(alloc, parts.classes)?;
     let functions = locals_of_all(alloc, parts.functions)?;
-    let statics = static_uses(alloc, parts.bindings, parts.scope)?;
+    let kind = module_kind(parts.body);
+    let statics = static_uses(alloc, kind, parts.bindings, parts.body)?;
     let name = outer.name.copy(alloc)?;
     let copy = tree.copy(alloc)?;
     Ok(Resolved {
         tree: copy,
         name,
         number: outer.number,
-        kind: module_kind(parts.body),
+        kind,
         globals,
         classes,
         functions,

@@ -4,10 +4,10 @@ ghost use Rattle.py_tree.specs.Joined.{kind_of, maybe_of, param_of, target_of};
 ghost use Rattle.symbols.specs.Contexts.{context_of};
 ghost use Rattle.symbols.specs.SpecialNames.{field_special, forbidden_binding, from_special, maybe_forbidden, member_special, module_special, own_special, param_special, signature_special, target_special};
 
-use crate::bindings::bound_name;
+use crate::bindings::{bound_name, is_marker_import};
 use crate::context::{Context, Use};
 use crate::special::{is_any_faulty, is_faulty};
-use crate::words::{is_marker, is_word};
+use crate::words::is_word;
 use py_tree::expression::{Expr, Param, Target};
 use py_tree::statement::{Import, StmtKind};
 use py_tree::text::Text;
@@ -140,7 +140,7 @@ fn any_module_faulty(names: &[Import], context: &Context<'_>) -> bool
 fn is_faulty_module(import: &Import, context: &Context<'_>) -> bool
     ensures { result ≡ module_special (context_of context.now) import.now }
 {
-    !is_marker(&import.name) && is_faulty_member(import, context)
+    !is_marker_import(import) && is_faulty_member(import, context)
 }
 
 fn is_faulty_from(from: &Text, names: &[Import], context: &Context<'_>) -> bool

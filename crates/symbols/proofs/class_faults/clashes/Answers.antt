@@ -1,5 +1,5 @@
 -- The methods as a set are the methods.
-use Rattle.std.proofs.Common.{◌≡◌, ◌∙◌, ap, [], List, ℕ}
+use Rattle.std.proofs.Common.{◌≡◌, ◌∙◌, ap, []}
 use Rattle.std.specs.List.{list_any}
 use Rattle.symbols.specs.Names.{with_names}
 use Rattle.symbols.specs.Words.{among}

@@ -1,4 +1,4 @@
-use Rattle.std.proofs.Common.{◌≡◌, take, filter}
+use Rattle.std.proofs.Common.{take, filter}
 use Rattle.py_tree.specs.Syntax.{Text}
 use Rattle.symbols.specs.Faults.{is_named}
 use Rattle.symbols.specs.Names.{found}

@@ -1,5 +1,5 @@
 -- What is answered is by the first fault of the parts, which is that of the module.
-use Rattle.std.proofs.Common.{◌≡◌, List, [], Option, Some, None, subst}
+use Rattle.std.proofs.Common.{◌≡◌, List, [], subst}
 use Rattle.py_tree.specs.Joined.{module_of}
 use Rattle.py_tree.specs.declared.fault.Fault.{Fault}
 use Rattle.symbols.specs.Faults.{IsFirst, faults}

@@ -1,4 +1,3 @@
-use Rattle.std.proofs.Common.{◌≡◌}
 use Rattle.symbols.proofs.Arguments.{arguments_step}
 use Rattle.symbols.specs.Contexts.{context_of}
 use Rattle.symbols.proofs.special.+special.Goals as goal

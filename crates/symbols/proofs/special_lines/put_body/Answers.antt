@@ -1,9 +1,7 @@
 -- The function is its parts.
-use Rattle.std.proofs.Common.{◌≡◌, ◌++◌, OnOk, List, map, subst, sym, ap, ◌∙◌}
-use Rattle.py_tree.specs.Joined.{statements_of, function_of, param_of}
-use Rattle.py_tree.specs.declared.expression.Param.{Param}
+use Rattle.std.proofs.Common.{◌≡◌, ◌++◌, OnOk, map, subst, sym, ap, ◌∙◌}
+use Rattle.py_tree.specs.Joined.{statements_of, param_of}
 use Rattle.py_tree.specs.declared.statement.Function.{out-Function}
-use Rattle.py_tree.specs.declared.statement.Stmt.{Stmt}
 use Rattle.symbols.specs.SpecialNames.{scope_lines, body_lines, in_function_body}
 use Rattle.symbols.specs.Contexts.{context_of}
 use Rattle.symbols.proofs.Trees.{function_is}

@@ -1,6 +1,6 @@
 -- The entry of the name is put in.
 use Rattle.std.specs.Prelude.{if◌then◌else◌}
-use Rattle.std.proofs.Common.{◌≡◌, ◌∙◌, ap, Some}
+use Rattle.std.proofs.Common.{◌∙◌, ap, Some}
 use Rattle.std.specs.Str.{bytes_eq}
 use Rattle.symbols.proofs.Entries.{value, replaced}
 use Rattle.symbols.proofs.name_map.NameMap.put.Goals as goal

@@ -1,4 +1,4 @@
-use Rattle.std.proofs.Common.{◌≡◌, take, map}
+use Rattle.std.proofs.Common.{◌≡◌, take}
 use Rattle.symbols.proofs.Sets.{pointed}
 use Rattle.symbols.proofs.names.Names.texts.Given as goal
 

@@ -1,5 +1,5 @@
 -- One binding more.
-use Rattle.std.proofs.Common.{◌≡◌, ◌∙◌, ap, Some, bit_or}
+use Rattle.std.proofs.Common.{◌∙◌, ap, Some, bit_or}
 use Rattle.symbols.proofs.Again.{more_of}
 use Rattle.symbols.proofs.repeats.Repeats.with.Goals as goal
 
