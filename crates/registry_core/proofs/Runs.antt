@@ -1,18 +1,20 @@
 -- Every run of the machine leads to a right state.
-use Rattle.std.proofs.Common.{◌≡◌, ◌≢◌, ℕ, Bool, true, false, List, [], ◌∷◌, ◌++◌, length, Some, None, refl, sym, ap, ◌∙◌, subst, arith, length-set}
+use Rattle.std.proofs.Common.{◌≡◌, ◌≢◌, ◌⊎◌, inl, inr, ℕ, ◌||◌, Bool, true, false, true≢false, List, [], ◌∷◌, ◌++◌, length, Some, None, refl, sym, ap, ◌∙◌, subst, arith, length-set}
 use Rattle.std.specs.Prelude.{slice_set, count_by}
 use Rattle.std.proofs.lemmas.List.{get_or-set_other, append-nil, length-replicate}
 use Rattle.std.proofs.lemmas.List.Sums.{sum_by-set}
 use Rattle.import_graph.specs.Needs.{IsNeed}
 use Rattle.import_graph.specs.World.{Rules, world}
+use Rattle.registry_core.specs.declared.slot.Slot.{Slot}
 use Rattle.registry_core.specs.declared.slot.Slot.TheVariants.{Waiting, Claimed, Published, Refused, Withdrawn}
 use Rattle.registry_core.specs.declared.slot.EventKind.{EventKind}
 use Rattle.registry_core.specs.declared.slot.EventKind.TheVariants.{Claim, Publish, Refuse, Withdraw}
 use Rattle.registry_core.specs.declared.slot.Event.{Event}
-use Rattle.registry_core.specs.Slots.{is_waiting, is_claimed, slot_at, event}
+use Rattle.registry_core.specs.Slots.{is_waiting, is_claimed, is_decided, is_withdrawn, slot_at, event}
 use Rattle.registry_core.specs.Machine.{State, start, verdict_at, right_over, MayDecide, Legal, after, Leads}
 use Rattle.registry_core.specs.Right.{IsRight}
 use Rattle.registry_core.specs.Decision.{decision, decided_slot}
+use Rattle.registry_core.proofs.Lists.{same_or_not}
 use Rattle.registry_core.proofs.SlotLaws.{is_there}
 use Rattle.registry_core.proofs.Decided.{right_is}
 use Rattle.registry_core.proofs.Keeps.{start_right, claim_right, decide_right, withdraw_right, decided_unclaimed, waits_of, one_if}
@@ -78,3 +80,29 @@ other_verdicts R s Claim m l k ne = refl
 other_verdicts R s Publish m l k ne = get_or-set_other s.verdicts m k (Some (right_over R s m)) None ne
 other_verdicts R s Refuse m l k ne = get_or-set_other s.verdicts m k (Some (right_over R s m)) None ne
 other_verdicts R s Withdraw m l k ne = refl
+
+-- a slot that is decided or withdrawn
+abbrev has_ended : Slot → Bool
+has_ended slot = is_decided slot || is_withdrawn slot
+
+-- no event is legal of a module whose slot has ended
+not_legal : {D : Type 0} (R : Rules D) (s : State D) (kind : EventKind) (m l : ℕ) → Legal R s kind m l → has_ended (slot_at s.slots m) ≡ true → ⊥
+not_legal R s Claim m l may h = true≢false (sym h ∙ ap has_ended (waits_of R s m may))
+not_legal R s Publish m l may h = true≢false (sym h ∙ ap has_ended may.claimed)
+not_legal R s Refuse m l may h = true≢false (sym h ∙ ap has_ended may.claimed)
+not_legal R s Withdraw m l may h = true≢false (sym h ∙ ap has_ended may)
+
+pub record Stays {D : Type 0} (s t : State D) (m : ℕ) : Type 0 where
+  pub slot : slot_at t.slots m ≡ slot_at s.slots m
+  pub verdict : verdict_at t.verdicts m ≡ verdict_at s.verdicts m
+
+stays_at : {D : Type 0} (R : Rules D) (s : State D) (kind : EventKind) (m l k : ℕ) → Legal R s kind m l → has_ended (slot_at s.slots k) ≡ true → (k ≡ m) ⊎ (k ≢ m) → Stays s (after R s kind m l) k
+stays_at R s kind m l k legal h (inl same) = absurd (not_legal R s kind m l legal (subst (λ x. has_ended (slot_at s.slots x) ≡ true) same h))
+stays_at R s kind m l k legal h (inr ne) = record { slot = other_slots R s kind m l k ne; verdict = other_verdicts R s kind m l k ne }
+
+pub ended_stays : {D : Type 0} (R : Rules D) (es : List Event) (s t : State D) (m : ℕ) → Leads R s es t → has_ended (slot_at s.slots m) ≡ true → Stays s t m
+ended_stays R [] s t m run h = subst (λ x. Stays s x m) run (record { slot = refl; verdict = refl })
+ended_stays R (e ∷ es) s t m run h =
+    let now = stays_at R s e.kind e.module e.loader m run.0 h (same_or_not m e.module) in
+    let later = ended_stays R es (after R s e.kind e.module e.loader) t m run.1 (ap has_ended now.slot ∙ h) in
+    record { slot = later.slot ∙ now.slot; verdict = later.verdict ∙ now.verdict }
