@@ -7,7 +7,9 @@ use std::test::Fail;
 /// stands behind `at` and its line.
 pub(crate) fn shape(alloc: Global, module: &Module) -> Result<String, Fail> {
     let mut out = String::new(alloc);
-    put_statements(module.body.as_slice(), &mut out)?;
+    for statement in module.body.as_slice() {
+        put_statement(statement, &mut out)?;
+    }
     Ok(out)
 }
 
@@ -34,18 +36,17 @@ fn word(kind: &StmtKind) -> &'static str {
 }
 
 #[cycle(shape)]
-fn put_statements(statements: &[Stmt], out: &mut String) -> Result<(), Fail> {
-    for statement in statements {
-        write!(out, " {} {}", statement.line, word(&statement.kind))?;
-        put_blocks(&statement.kind, out)?;
-    }
-    Ok(())
+fn put_statement(statement: &Stmt, out: &mut String) -> Result<(), Fail> {
+    write!(out, " {} {}", statement.line, word(&statement.kind))?;
+    put_blocks(&statement.kind, out)
 }
 
 #[cycle(shape)]
 fn put_block(statements: &[Stmt], out: &mut String) -> Result<(), Fail> {
     out.push_str(" {")?;
-    put_statements(statements, out)?;
+    for statement in statements {
+        put_statement(statement, out)?;
+    }
     out.push_str(" }")?;
     Ok(())
 }
@@ -55,7 +56,11 @@ fn put_blocks(kind: &StmtKind, out: &mut String) -> Result<(), Fail> {
     match kind {
         StmtKind::If { branches, orelse } => {
             put_branches(branches.as_slice(), out)?;
-            put_else(orelse.as_slice(), out)
+            if orelse.is_empty() {
+                return Ok(());
+            }
+            out.push_str(" else")?;
+            put_block(orelse.as_slice(), out)
         }
         StmtKind::While(_, body) => put_block(body.as_slice(), out),
         StmtKind::For(_, _, body) => put_block(body.as_slice(), out),
@@ -76,15 +81,6 @@ fn put_branches(branches: &[Branch], out: &mut String) -> Result<(), Fail> {
         put_block(branch.body.as_slice(), out)?;
     }
     Ok(())
-}
-
-#[cycle(shape)]
-fn put_else(orelse: &[Stmt], out: &mut String) -> Result<(), Fail> {
-    if orelse.is_empty() {
-        return Ok(());
-    }
-    out.push_str(" else")?;
-    put_block(orelse, out)
 }
 
 #[cycle(shape)]
