@@ -1,28 +1,29 @@
 #!/usr/bin/env python3
-"""Times the reading of one long line of tokens, at 25,000 tokens and at two, four and eight times as many. It prints a row of
+"""Times `line_form` on one long line of tokens, at 50,000 tokens and at two, four and eight times as many. It prints a row of
 a table for each kind of line: the milliseconds of the processor, and how many times the longest takes as long as half of
 it. It builds the program below over a copy of the crates that it needs."""
 import re, sys
 from measuring import printed
 
-SIZES = [25_000, 50_000, 100_000, 200_000]
-BELOW = ["lists", "py_tree", "py_lexer", "py_phrases"]
-PROGRAM = r"""//! Reads each line on standard input some times, and prints its tokens and the least microseconds that one reading took.
+SIZES = [50_000, 100_000, 200_000, 400_000]
+BELOW = ["lists", "py_tree", "py_lexer", "py_phrases", "py_expr"]
+PROGRAM = r"""//! Takes the form of each line on standard input some times, and prints its tokens and the least microseconds that it took.
 #![tactic(auto)]
 
-use py_phrases::phrase::list_at;
+use py_expr::form::Form;
+use py_expr::line::line_form;
 use py_lexer::lex::lex;
-use py_lexer::token::Token;
-use std::alloc::{AllocError, Global};
+use py_tree::code::Code;
+use py_tree::fault::{Fault, Stop};
 use std::io::{self, Read};
 use std::time::CpuClock;
 
-fn is_read(alloc: Global, tokens: &[Token]) -> Result<bool, AllocError> {
-    let Some(phrase) = list_at(alloc, tokens)? else {
-        return Ok(false);
-    };
-    let _ = phrase.expression(alloc)?;
-    Ok(true)
+fn is_read(answer: &Result<Form, Stop>) -> bool {
+    match answer {
+        Ok(_) => true,
+        Err(Stop::Fault(Fault { code, .. })) => matches!(code, Code::TooDeep),
+        Err(Stop::Memory(_)) => false,
+    }
 }
 
 fn main(rt: HostRuntime) -> io::Result<()> {
@@ -37,10 +38,11 @@ fn main(rt: HostRuntime) -> io::Result<()> {
             let mut least = u128::MAX;
             for _ in 0..5 {
                 let before = rt.process_cpu_time()?;
-                if !is_read(alloc, line.tokens.as_slice())? {
+                let answer = line_form(alloc, line);
+                let took = rt.process_cpu_time()?.saturating_sub(before);
+                if !is_read(&answer) {
                     return Ok(());
                 }
-                let took = rt.process_cpu_time()?.saturating_sub(before);
                 least = least.min(took.as_micros());
             }
             println!(rt; "{} {}", line.tokens.len(), least)?;
@@ -59,11 +61,11 @@ def filled(begins, part, between, ends, each, size):
 LINES = {
     "`a + a + ..`": lambda size: filled("", "a", " + ", "", 2, size),
     "`a.b.c..`": lambda size: filled("", "a", ".", "", 2, size),
-    "`f(1, 2, ..)`": lambda size: filled("f(", "#", ", ", ")", 2, size),
-    "`f(k1=1, k2=2, ..)`": lambda size: filled("f(", "k#=#", ", ", ")", 4, size),
-    "`'a' 'a' ..`": lambda size: filled("", "'a'", " ", "", 1, size),
+    "`f(1, 1, ..)`": lambda size: filled("f(", "1", ", ", ")", 2, size),
+    "`f(k1=1, k2=1, ..)`": lambda size: filled("f(", "k#=1", ",", ")", 4, size),
+    "`'' \"\" ..`": lambda size: filled("", "''\"\"", "", "", 2, size),
     "`a, a, ..`": lambda size: filled("", "a", ", ", "", 2, size),
-    "`{1: 1, 2: 2, ..}`": lambda size: filled("{", "#: #", ", ", "}", 4, size),
+    "`{1: 1, 1: 1, ..}`": lambda size: filled("{", "1: 1", ", ", "}", 4, size),
     "`a[0][0]..`": lambda size: filled("a", "[0]", "", "", 3, size),
 }
 

@@ -1,7 +1,12 @@
 use crate::answer::fault_in;
-use module_load::preparing::parse;
+use crate::shapes::shape;
+use py_blocks::building::build;
+use py_blocks::form_line::{FormLine, FormLines};
+use py_expr::line::line_form;
+use py_lexer::lex::lex;
 use py_tree::code::Code;
-use py_tree::fault::Fault;
+use py_tree::fault::{Fault, Stop};
+use py_tree::statement::Module;
 use std::alloc::{AllocError, AllocGlobal, Global};
 use std::process::Abort;
 use std::test::Fail;
@@ -54,10 +59,35 @@ fn push_line(text: &mut String, line: &str) -> Result<(), AllocError> {
     text.push_str("\n")
 }
 
+/// The module that the forms of the lines of a text spell.
+fn module_of(alloc: Global, text: &str) -> Result<Module, Stop> {
+    let lines = lex(alloc, text.as_bytes())?;
+    let mut forms = FormLines::new(alloc);
+    for line in lines.as_slice() {
+        let form = line_form(alloc, line)?;
+        forms.push(FormLine {
+            indent: line.indent,
+            line: line.line,
+            form,
+        })?;
+    }
+    build(alloc, forms)
+}
+
 /// The fault of a row, if there is one.
 fn fault(alloc: Global, row: &str) -> Result<Option<Fault>, AllocError> {
     let text = text_of(alloc, row)?;
-    fault_in(parse(alloc, text.as_bytes()))
+    fault_in(module_of(alloc, &text))
+}
+
+/// The shape of the module that a row spells, or the code and line of its fault.
+fn answer(alloc: Global, row: &str) -> Result<String, Fail> {
+    let text = text_of(alloc, row)?;
+    match module_of(alloc, &text) {
+        Ok(module) => shape(alloc, &module),
+        Err(Stop::Fault(fault)) => Ok(format!(in alloc; "{} on {}", fault.code, fault.line)?),
+        Err(Stop::Memory(error)) => Err(error.into()),
+    }
 }
 
 fn push_indented(text: &mut String, indent: u32, line: &str) -> Result<(), AllocError> {
@@ -74,14 +104,115 @@ fn nested(alloc: Global, heads: u32, statement: &str) -> Result<Option<Fault>, A
         push_indented(&mut text, indent, "if None:\n")?;
     }
     push_indented(&mut text, heads, statement)?;
-    fault_in(parse(alloc, text.as_bytes()))
+    fault_in(module_of(alloc, &text))
+}
+
+fn answers_agree(rt: &(impl Abort + AllocGlobal), rows: &[(&str, &str)]) -> Result<(), Fail> {
+    for (row, want) in rows {
+        let answer = answer(rt.alloc(), row)?;
+        assert_eq!(rt; answer.as_str(), *want, "at {row}");
+    }
+    Ok(())
 }
 
 #[test]
-fn a_function_and_a_statement_are_two(rt: HostRuntime) -> Result<(), Fail> {
-    let module = parse(rt.alloc(), b"def x(a):\n    return\npass\n")?;
-    assert_eq!(rt; module.body.len(), 2);
+fn a_head_takes_its_block_on_its_line_or_below_it(rt: HostRuntime) -> Result<(), Fail> {
+    answers_agree(
+        &rt,
+        &[
+            ("if pass", " 1 if at 1 { 1 pass }"),
+            ("if/ pass/ e", " 1 if at 1 { 2 pass 3 eval }"),
+            (
+                "if pass/elif pass/else pass",
+                " 1 if at 1 { 1 pass } at 2 { 2 pass } else { 3 pass }",
+            ),
+            (
+                "if/ pass/elif/ pass/else/ pass",
+                " 1 if at 1 { 2 pass } at 3 { 4 pass } else { 6 pass }",
+            ),
+            ("while break", " 1 while { 1 break }"),
+            ("while/ continue", " 1 while { 2 continue }"),
+            ("for continue", " 1 for { 1 continue }"),
+            ("for/ break", " 1 for { 2 break }"),
+            ("try e/except raise", " 1 try { 1 eval } except { 2 raise }"),
+            (
+                "try/ e/except-e/ raise/except/ pass",
+                " 1 try { 2 eval } except-e { 4 raise } except { 6 pass }",
+            ),
+            (
+                "try e/except-e raise",
+                " 1 try { 1 eval } except-e { 2 raise }",
+            ),
+            ("def return", " 1 def { 1 return }"),
+            ("def/ return/pass", " 1 def { 2 return } 3 pass"),
+            ("class field", " 1 class { 1 annotate }"),
+            (
+                "class/ text/ field/ pass/ method return/ method/  pass",
+                " 1 class { 2 eval 3 annotate 4 pass 5 def { 5 return } 6 def { 7 pass } }",
+            ),
+        ],
+    )
+}
+
+#[test]
+fn a_form_stands_in_the_block_of_its_indentation(rt: HostRuntime) -> Result<(), Fail> {
+    let before = "if/  while/    for/      pass";
+    for (last, want) in [
+        ("       e", "E06 on 5"),
+        (
+            "      e",
+            " 1 if at 1 { 2 while { 3 for { 4 pass 5 eval } } }",
+        ),
+        ("     e", "E06 on 5"),
+        (
+            "    e",
+            " 1 if at 1 { 2 while { 3 for { 4 pass } 5 eval } }",
+        ),
+        ("   e", "E06 on 5"),
+        ("  e", " 1 if at 1 { 2 while { 3 for { 4 pass } } 5 eval }"),
+        (" e", "E06 on 5"),
+        ("e", " 1 if at 1 { 2 while { 3 for { 4 pass } } } 5 eval"),
+        (
+            "elif pass",
+            " 1 if at 1 { 2 while { 3 for { 4 pass } } } at 5 { 5 pass }",
+        ),
+        ("  elif pass", "E07 on 5"),
+    ] {
+        let row = format!(in rt.alloc(); "{before}/{last}")?;
+        answers_agree(&rt, &[(row.as_str(), want)])?;
+    }
     Ok(())
+}
+
+#[test]
+fn a_part_belongs_to_the_statement_of_its_indentation(rt: HostRuntime) -> Result<(), Fail> {
+    answers_agree(
+        &rt,
+        &[
+            (
+                "if/ if pass/elif pass",
+                " 1 if at 1 { 2 if at 2 { 2 pass } } at 3 { 3 pass }",
+            ),
+            (
+                "if/ if pass/ elif pass",
+                " 1 if at 1 { 2 if at 2 { 2 pass } at 3 { 3 pass } }",
+            ),
+            (
+                "if/ if pass/ else pass/else pass",
+                " 1 if at 1 { 2 if at 2 { 2 pass } else { 3 pass } } else { 4 pass }",
+            ),
+            (
+                "try/ try pass/ except pass/except-e pass",
+                " 1 try { 2 try { 2 pass } except { 3 pass } } except-e { 4 pass }",
+            ),
+            (
+                "if pass/if pass",
+                " 1 if at 1 { 1 pass } 2 if at 2 { 2 pass }",
+            ),
+            ("if//  pass///e", " 1 if at 1 { 3 pass } 6 eval"),
+            ("", ""),
+        ],
+    )
 }
 
 fn rows_are_taken(rt: &(impl Abort + AllocGlobal), rows: &[&str]) -> Result<(), Fail> {
@@ -153,10 +284,19 @@ fn refuses_the_first_form_that_may_not_stand(rt: HostRuntime) -> Result<(), Fail
             ("if/ pass/else pass/elif pass", 4),
             ("while pass/else pass", 2),
             ("try pass/except pass/except-e pass", 3),
+            ("if/ pass/else pass/else pass", 4),
+            ("if pass/pass/else pass", 3),
+            ("elif pass", 1),
+            ("else pass", 1),
+            ("except pass", 1),
+            ("try pass/except pass/pass/except pass", 4),
             ("try pass", 1),
+            ("try/ pass", 2),
             ("try pass/pass", 2),
-            ("pass/if", 2),
+            ("if/ try pass/elif pass", 3),
             ("return", 1),
+            ("return/ pass", 1),
+            ("if pass/while/ return", 3),
             ("while pass/def/ break", 3),
             ("raise", 1),
             ("try pass/except/ def/  raise", 4),
@@ -168,6 +308,28 @@ fn refuses_the_first_form_that_may_not_stand(rt: HostRuntime) -> Result<(), Fail
             ("while/ class pass", 2),
             ("try pass/except pass/else pass", 3),
             ("pass/except pass", 2),
+        ],
+    )
+}
+
+#[test]
+fn a_head_that_waits_for_its_block_is_not_the_last_form(rt: HostRuntime) -> Result<(), Fail> {
+    rows_are_refused(
+        &rt,
+        Code::MisplacedForm,
+        &[
+            ("if", 1),
+            ("pass/if", 2),
+            ("if pass/elif", 2),
+            ("if pass/else", 2),
+            ("while", 1),
+            ("for", 1),
+            ("try", 1),
+            ("try pass/except-e", 2),
+            ("try pass/except", 2),
+            ("def", 1),
+            ("class", 1),
+            ("class/ method", 2),
         ],
     )
 }
@@ -213,8 +375,13 @@ fn refuses_indentations(rt: HostRuntime) -> Result<(), Fail> {
         Code::BadIndentation,
         &[
             (" pass", 1),
+            (" return", 1),
             ("if/pass", 2),
+            ("if/else pass", 2),
+            ("if/ while/ pass", 3),
+            ("def/ while/return", 3),
             ("if/  pass/ pass", 3),
+            ("try pass/except/pass", 3),
             ("pass/ pass", 2),
             ("pass/ return", 2),
         ],

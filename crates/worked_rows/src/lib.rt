@@ -14,4 +14,6 @@ mod lines;
 #[cfg(test)]
 mod phrases;
 #[cfg(test)]
+mod shapes;
+#[cfg(test)]
 mod sources;

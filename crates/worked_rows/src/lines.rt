@@ -3,7 +3,6 @@ use py_expr::form::Form;
 use py_expr::line::line_form;
 use py_lexer::lex::lex;
 use py_tree::expression::{Expr, Target};
-use py_tree::fault::Fault;
 use py_tree::operator::{BinaryOp, CompareOp};
 use py_tree::statement::StmtKind;
 use std::alloc::{AllocGlobal, Global};
@@ -11,21 +10,16 @@ use std::fmt::Write;
 use std::process::Abort;
 use std::test::Fail;
 
-/// The fault of the first line of the text, if there is one.
-fn fault_of(alloc: Global, text: &str) -> Result<Option<Fault>, Fail> {
-    let lines = lex(alloc, text.as_bytes())?;
-    match lines.as_slice().first() {
-        Some(line) => Ok(fault_in(line_form(alloc, line))?),
-        None => Ok(None),
-    }
-}
-
-/// `taken` where the first line of the text spells a form, and else its fault.
+/// `taken` where the one logical line of the text spells a form, and else its fault.
 fn answer(alloc: Global, text: &str) -> Result<String, Fail> {
+    let lines = lex(alloc, text.as_bytes())?;
     let mut out = String::new(alloc);
-    match fault_of(alloc, text)? {
-        Some(fault) => write!(out, "{} on {}", fault.code, fault.line)?,
-        None => out.push_str("taken")?,
+    match lines.as_slice() {
+        [line] => match fault_in(line_form(alloc, line))? {
+            Some(fault) => write!(out, "{} on {}", fault.code, fault.line)?,
+            None => out.push_str("taken")?,
+        },
+        lines => write!(out, "{} lines", lines.len())?,
     }
     Ok(out)
 }
@@ -134,6 +128,7 @@ fn reads_expressions(rt: HostRuntime) -> Result<(), Fail> {
             ("a is False", "taken"),
             ("a is b", "E05 on 1"),
             ("a is", "E05 on 1"),
+            ("a is not", "E05 on 1"),
             ("a is not not None", "E05 on 1"),
             ("a is None is None", "E05 on 1"),
             ("a is None + b", "E05 on 1"),
@@ -276,6 +271,7 @@ fn reads_heads(rt: HostRuntime) -> Result<(), Fail> {
             ("while a:", "taken"),
             ("while a: break", "taken"),
             ("while:", "E05 on 1"),
+            ("while a", "E05 on 1"),
             ("for a in b:", "taken"),
             ("for a in b, c,: pass", "taken"),
             ("for a, b in c:", "taken"),
@@ -291,9 +287,11 @@ fn reads_heads(rt: HostRuntime) -> Result<(), Fail> {
             ("try:", "taken"),
             ("try: pass", "taken"),
             ("try a:", "E05 on 1"),
+            ("try", "E05 on 1"),
             ("except:", "taken"),
             ("except a:", "taken"),
             ("except (a, b) as c: pass", "taken"),
+            ("except", "E05 on 1"),
             ("except a as:", "E05 on 1"),
             ("except as a:", "E05 on 1"),
             ("except a, b:", "E05 on 1"),
@@ -330,6 +328,77 @@ fn reads_heads(rt: HostRuntime) -> Result<(), Fail> {
             ("finally:", "E05 on 1"),
         ],
     )
+}
+
+#[test]
+fn refuses_two_commas_side_by_side(rt: HostRuntime) -> Result<(), Fail> {
+    answers_agree(
+        &rt,
+        &[
+            ("a,,", "E05 on 1"),
+            ("(a,,)", "E05 on 1"),
+            ("[a,,]", "E05 on 1"),
+            ("[a,, b]", "E05 on 1"),
+            ("{a: b,,}", "E05 on 1"),
+            ("a[b,,]", "E05 on 1"),
+            ("f(a,,)", "E05 on 1"),
+            ("f(a,, k=b)", "E05 on 1"),
+            ("return a,,", "E05 on 1"),
+            ("import a,, b", "E05 on 1"),
+            ("from m import (a,,)", "E05 on 1"),
+            ("a, b,, = c", "E05 on 1"),
+            ("(a, b,,) = c", "E05 on 1"),
+            ("a = b,,", "E05 on 1"),
+            ("a += b,,", "E05 on 1"),
+            ("for a, b,, in c:", "E05 on 1"),
+            ("for a in b,,:", "E05 on 1"),
+        ],
+    )
+}
+
+#[test]
+fn refuses_a_comma_behind_a_lone_expression(rt: HostRuntime) -> Result<(), Fail> {
+    answers_agree(
+        &rt,
+        &[
+            ("x: a,", "E05 on 1"),
+            ("x: a, = b", "E05 on 1"),
+            ("if a,:", "E05 on 1"),
+            ("elif a,:", "E05 on 1"),
+            ("while a,:", "E05 on 1"),
+            ("except a,:", "E05 on 1"),
+            ("def f() -> a,:", "E05 on 1"),
+            ("{a,: b}", "E05 on 1"),
+            ("class C(m.B,):", "E05 on 1"),
+        ],
+    )
+}
+
+/// The operators that stand between two operands. No line begins with one of them.
+const BETWEEN: [&str; 18] = [
+    "or", "and", "==", "!=", "<", "<=", ">", ">=", "in", "*", "//", "%", "=", "+=", "-=", "*=",
+    "//=", "%=",
+];
+
+fn operand_is_wanted_behind(rt: &(impl Abort + AllocGlobal), operator: &str) -> Result<(), Fail> {
+    for (behind, want) in [(" b", "taken"), ("", "E05 on 1"), (" b c", "E05 on 1")] {
+        let text = format!(in rt.alloc(); "a {operator}{behind}")?;
+        answers_agree(rt, &[(text.as_str(), want)])?;
+    }
+    Ok(())
+}
+
+#[test]
+fn an_operator_wants_an_operand_on_each_side(rt: HostRuntime) -> Result<(), Fail> {
+    for operator in BETWEEN {
+        operand_is_wanted_behind(&rt, operator)?;
+        let text = format!(in rt.alloc(); "{operator} b")?;
+        answers_agree(&rt, &[(text.as_str(), "E05 on 1")])?;
+    }
+    for operator in ["not in", "+", "-"] {
+        operand_is_wanted_behind(&rt, operator)?;
+    }
+    Ok(())
 }
 
 /// The text in the middle, so many times with what stands before and behind it.
@@ -414,6 +483,16 @@ fn grouping_adds_no_nesting(rt: HostRuntime) -> Result<(), Fail> {
 #[test]
 fn a_long_chain_is_too_deep(rt: HostRuntime) -> Result<(), Fail> {
     nested_answers_agree(&rt, &[("not ", ""), ("", " + b")], 100_000, "a", "E08 on 1")
+}
+
+#[test]
+fn a_long_chain_of_attributes_is_too_deep(rt: HostRuntime) -> Result<(), Fail> {
+    nested_answers_agree(&rt, &[("", ".b")], 100_000, "a", "E08 on 1")
+}
+
+#[test]
+fn a_long_chain_of_conditions_is_too_deep(rt: HostRuntime) -> Result<(), Fail> {
+    nested_answers_agree(&rt, &[("", "if[]else[]")], 100_000, "[]", "E08 on 1")
 }
 
 /// What stands around the one expression of a line.
