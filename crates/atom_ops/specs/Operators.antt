@@ -2,8 +2,8 @@
 --
 -- In it are the operators but `and` and `or`, and the builtins and methods of texts that `Callee` lists, of None, bools, ints, texts, `int64`s,
 -- `cbool`s and host values. Not in it is what has to see objects: lists, tuples, dictionaries, ranges, instances, classes, functions, modules,
--- the builtins that make or go through them, and `print`. The fuel of a call begun isn't in a row, nor is binding by keyword, which no builtin
--- takes. Static types keep primitives from the rows in which they stand beside other values; these have TypeError here, as all other operands.
+-- the builtins that make or go through them, and `print`, `min` and `max`. The fuel of a call begun isn't in a row, nor are keywords, of which
+-- no builtin takes any. Static types keep a primitive from standing beside another value: these rows are never asked for.
 use Rattle.std.specs.Prelude.{ℕ, min, Bool, true, false, not, ◌||◌, if◌then◌else◌, List, [], ◌∷◌, ◌++◌, length, reverse, slice_get, nat_eq, nat_le, ◌==◌, Option, Some, None, ℤ, pos, negsuc, neg_ℤ, unsigned_abs, codes}
 use Rattle.std.specs.Ordering.{int_cmp, is_eq, is_ne, is_lt, is_le, is_gt, is_ge}
 use Rattle.std.specs.declared.cmp.Ordering.{Ordering}
