@@ -1,4 +1,5 @@
 pub mod Division
 pub mod OneQuotient
 pub mod Results
+pub mod Cells
 mod Examples

@@ -1,5 +1,5 @@
 ghost use Rattle.atom_ops.specs.Floored.{AreFloored};
-ghost use Rattle.atom_ops.specs.Operators.{AreRows};
+ghost use Rattle.atom_ops.specs.Rows.{AreRows};
 
 /// At every divisor but 0 there is one floored quotient with its remainder, which operators give.
 pub fn one_floored_quotient()

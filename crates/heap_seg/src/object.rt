@@ -28,7 +28,7 @@ pub enum Object {
     Range {
         start: PyInt,
         stop: PyInt,
-        /// Never 0.
+        /// Not 0 where a segment made it.
         step: PyInt,
     },
     /// A method with the value that it was read from.

@@ -30,10 +30,49 @@ fn objects_stand_in_the_order_in_which_they_were_made(rt: HostRuntime) -> Result
     for (place, one) in made.iter().enumerate() {
         assert_eq!(rt; *one, Ref { home: HOME, place });
     }
-    match segment.get(4) {
-        Object::Range { start, stop, step } => assert_eq!(rt; (*start, *stop, *step), (0, 3, -1)),
-        _ => assert!(rt; false),
-    }
+    Ok(())
+}
+
+#[test]
+fn made_objects_hold_what_they_were_made_of(rt: HostRuntime) -> Result<(), Fail> {
+    let mut segment = Segment::new(rt.alloc(), HOME);
+    segment.make_list(&[Value::Int(1), Value::Nil])?;
+    segment.make_tuple(&[Value::Int(2)])?;
+    segment.make_text(&['a', 'b'])?;
+    segment.make_dict()?;
+    segment.make_range(0, 3, -1)?;
+    segment.make_bound(Value::Nil, Value::Bool(true))?;
+    segment.make_instance(ClassId::Exc(ExcKind::KeyError), &[None])?;
+    assert!(rt; items(segment.get(0)) == [Value::Int(1), Value::Nil].as_slice());
+    assert!(rt;
+        matches!(segment.get(1), Object::Tuple(items) if items.as_slice() == [Value::Int(2)].as_slice())
+    );
+    assert!(rt;
+        matches!(segment.get(2), Object::Text(text) if text.as_slice() == ['a', 'b'].as_slice())
+    );
+    assert!(rt; matches!(segment.get(3), Object::Dict(entries) if entries.len() == 0));
+    assert!(rt;
+        matches!(
+            segment.get(4),
+            Object::Range {
+                start: 0,
+                stop: 3,
+                step: -1
+            }
+        )
+    );
+    assert!(rt;
+        matches!(
+            segment.get(5),
+            Object::Bound {
+                receiver: Value::Nil,
+                method: Value::Bool(true)
+            }
+        )
+    );
+    assert!(rt;
+        matches!(segment.get(6), Object::Instance { class: ClassId::Exc(ExcKind::KeyError), slots } if slots.as_slice() == [None].as_slice())
+    );
     Ok(())
 }
 
@@ -69,9 +108,11 @@ fn an_item_is_set(rt: HostRuntime) -> Result<(), Fail> {
 fn a_key_is_put(rt: HostRuntime) -> Result<(), Fail> {
     let mut segment = Segment::new(rt.alloc(), HOME);
     segment.make_dict()?;
-    segment.write(0, Change::Put(Key::Int(1), Value::Int(1), Value::Nil))?;
+    segment.write(0, Change::Put(Key::Int(1), Value::Bool(true), Value::Nil))?;
     match segment.get(0) {
         Object::Dict(entries) => {
+            assert_eq!(rt; entries.len(), 1);
+            assert_eq!(rt; entries.at(0), Some((&Value::Bool(true), &Value::Nil)));
             assert_eq!(rt; entries.find(&Key::Int(1)), Some(&Value::Nil));
         }
         _ => assert!(rt; false),

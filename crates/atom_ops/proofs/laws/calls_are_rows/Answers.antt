@@ -1,4 +1,5 @@
 use Rattle.std.proofs.Common.{refl}
+use Rattle.atom_ops.proofs.Cells.{prim_neg, compare_text}
 use Rattle.atom_ops.proofs.laws.calls_are_rows.Goals as goal
 
 pub returns : goal.returns
@@ -7,6 +8,8 @@ returns c =
       int_op = λ op a b. refl;
       int_neg = λ a. refl;
       prim_op = λ op a b. refl;
-      compare_text = λ op a b. refl;
+      prim_neg = prim_neg;
+      compare_text = compare_text;
+      repr_text = λ text. refl;
       read_int = λ text. refl;
     }
