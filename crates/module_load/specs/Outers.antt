@@ -6,8 +6,8 @@ use Rattle.py_tree.specs.Syntax as x
 use Rattle.py_tree.specs.Syntax.{Text, Kind, Statement, Statements}
 use Rattle.py_tree.specs.TopPart.{top_imports}
 use Rattle.py_tree.specs.declared.statement.Import.{Import}
-use Rattle.symbols.specs.Bindings.{alias_or}
-use Rattle.symbols.specs.Words.{is_marker, static_name}
+use Rattle.symbols.specs.Bindings.{alias_or, is_marker_import}
+use Rattle.symbols.specs.Words.{static_name}
 use Rattle.symbols.specs.declared.outer.Outer.{Outer}
 use Rattle.symbols.specs.declared.outer.OuterBinding.{OuterBinding}
 use Rattle.symbols.specs.declared.outer.OuterKind.{OuterKind}
@@ -28,7 +28,7 @@ module_kind = holds.Module []
 
 -- a marker binds nothing
 abbrev pub module_bindings : Import → List OuterBinding
-module_bindings i = if is_marker i.name then [] else outer_binding (alias_or i.alias i.name) module_kind ∷ []
+module_bindings i = if is_marker_import i then [] else outer_binding (alias_or i.alias i.name) module_kind ∷ []
 
 -- ---- `from NAME import NAME as NAME, ..`
 

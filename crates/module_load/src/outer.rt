@@ -10,9 +10,9 @@ use crate::verdict::{ModuleGlobal, Verdict};
 use py_tree::statement::{Import, Stmt, StmtKind};
 use py_tree::text::Text;
 use std::alloc::{AllocError, Global};
-use symbols::bindings::bound_name;
+use symbols::bindings::{bound_name, is_marker_import};
 use symbols::outer::{ModuleClasses, Outer, OuterBinding, OuterBindings, OuterKind};
-use symbols::words::{is_marker, is_word, static_name};
+use symbols::words::{is_word, static_name};
 
 /// What the imports of a module's top part bind.
 pub(crate) fn outer<K: Known>(
@@ -73,7 +73,7 @@ fn put_modules(
     ensures { OnOk result (bindings.new ≡ bindings.old ++ flat_map rule.module_bindings names.now) }
 {
     for import in names {
-        if !is_marker(&import.name) {
+        if !is_marker_import(import) {
             let name = bound_name(import).copy(alloc)?;
             let kind = module_kind(alloc);
             bindings.push(OuterBinding { name, kind })?;

@@ -146,6 +146,10 @@ fn reports_the_first_phase_then_the_least_line_then_the_least_code(
             "refused line 3 N12",
         ),
         ("from typing import zz\nimport zz\n", "refused line 2 N15"),
+        (
+            "from __static__ import int64\nimport __static__ as s\n",
+            "refused line 2 N15",
+        ),
         ("pass\nprint = 1\n", "refused line 3 N19"),
         ("pass\nimport a\n", "refused line 3 N18"),
         ("X = 1\npass\nX: int\n", "refused line 3 E99"),
