@@ -114,10 +114,7 @@ fn definitions_are_bound_once(rt: HostRuntime) -> Result<(), Fail> {
                 "x = 1\nimport __static__ as s\nimport __static__ as s",
                 "N18 on 2",
             ),
-            (
-                "def s(): pass\nimport __static__ as s",
-                "N16 on 2",
-            ),
+            ("def s(): pass\nimport __static__ as s", "N16 on 2"),
         ],
     )
 }
@@ -298,10 +295,22 @@ fn static_names_stand_in_their_forms(rt: HostRuntime) -> Result<(), Fail> {
                 "import __static__\nfrom __static__ import int64, cbool\nx: int64 = int64(1)\ny: cbool = cbool(x)",
                 "",
             ),
-            ("import __static__\nfrom __static__ import int64\nx = f(int64)", "N19 on 3"),
-            ("import __static__\nfrom __static__ import cbool\nx = cbool.y", "N19 on 3"),
-            ("import __static__\nfrom __static__ import box\nx = box(1)", ""),
-            ("import __static__\nfrom __static__ import box\nx: box", "N19 on 3"),
+            (
+                "import __static__\nfrom __static__ import int64\nx = f(int64)",
+                "N19 on 3",
+            ),
+            (
+                "import __static__\nfrom __static__ import cbool\nx = cbool.y",
+                "N19 on 3",
+            ),
+            (
+                "import __static__\nfrom __static__ import box\nx = box(1)",
+                "",
+            ),
+            (
+                "import __static__\nfrom __static__ import box\nx: box",
+                "N19 on 3",
+            ),
             (
                 "import __static__\nfrom typing import Any\nfrom __static__ import cast\nx = cast(Any, y)",
                 "",
@@ -310,7 +319,10 @@ fn static_names_stand_in_their_forms(rt: HostRuntime) -> Result<(), Fail> {
                 "import __static__\nfrom typing import Any\nfrom __static__ import cast\nx = cast(y, Any)",
                 "N19 on 4",
             ),
-            ("import __static__\nfrom __static__ import cast\nx: cast", "N19 on 3"),
+            (
+                "import __static__\nfrom __static__ import cast\nx: cast",
+                "N19 on 3",
+            ),
             (
                 "import __static__\nfrom __static__ import cast, box\nx = cast(box, y)",
                 "N19 on 3",
