@@ -268,7 +268,6 @@ fn a_module_that_imports_static_is_static(rt: HostRuntime) -> Result<(), Fail> {
         ("import __strict__", ModuleKind::Strict),
         ("import __static__", ModuleKind::Static),
         ("'doc'\nimport a\nimport __static__", ModuleKind::Static),
-        ("import __static__ as s", ModuleKind::Strict),
         ("import a, __static__", ModuleKind::Strict),
     ] {
         match names(rt.alloc(), text) {
