@@ -48,7 +48,11 @@ clauses (c ∷ cs) = x.more_clauses c (clauses cs)
 
 -- expressions: one layer over the syntax of its parts, and then whole
 
-abbrev pub expr_step : E.Expr-F Expression x.Keyword x.Pair → Expression
+-- a call stands for its expression
+abbrev pub call_step : E.Call-F Expression Expression x.Keyword x.Pair → Expression
+call_step c = x.Call c.callee (expressions c.args) (keywords c.keys)
+
+abbrev pub expr_step : E.Expr-F Expression Expression x.Keyword x.Pair → Expression
 expr_step E.Nil = x.Nil
 expr_step E.True = x.True
 expr_step E.False = x.False
@@ -68,22 +72,22 @@ expr_step (E.Or a b) = x.Or a b
 expr_step (E.Cond test then other) = x.Cond test then other
 expr_step (E.Attr e name) = x.Attr e name
 expr_step (E.Index e i) = x.Index e i
-expr_step (E.Call callee args keys) = x.Call callee (expressions args) (keywords keys)
+expr_step (E.Call call) = call
 
-abbrev pub keyword_step : E.Keyword-F Expression x.Keyword x.Pair → x.Keyword
+abbrev pub keyword_step : E.Keyword-F Expression Expression x.Keyword x.Pair → x.Keyword
 keyword_step k = x.Named k.name k.value
 
-abbrev pub pair_step : E.Pair-F Expression x.Keyword x.Pair → x.Pair
+abbrev pub pair_step : E.Pair-F Expression Expression x.Keyword x.Pair → x.Pair
 pair_step p = x.Paired p.key p.value
 
 abbrev pub expression_of : Expr → Expression
-expression_of = fold-Expr Expression x.Keyword x.Pair expr_step keyword_step pair_step
+expression_of = fold-Expr Expression Expression x.Keyword x.Pair expr_step call_step keyword_step pair_step
 
 abbrev pub keyword_of : Keyword → x.Keyword
-keyword_of = fold-Keyword Expression x.Keyword x.Pair expr_step keyword_step pair_step
+keyword_of = fold-Keyword Expression Expression x.Keyword x.Pair expr_step call_step keyword_step pair_step
 
 abbrev pub pair_of : Pair → x.Pair
-pair_of = fold-Pair Expression x.Keyword x.Pair expr_step keyword_step pair_step
+pair_of = fold-Pair Expression Expression x.Keyword x.Pair expr_step call_step keyword_step pair_step
 
 abbrev pub expressions_of : List Expr → Expressions
 expressions_of es = expressions (map expression_of es)

@@ -167,24 +167,3 @@ impl fmt::Display for Code {
         write!(f, "{letter}{}{}", number / 10, number % 10)
     }
 }
-
-#[cfg(test)]
-mod tests {
-    use super::*;
-    use std::test::Fail;
-
-    #[test]
-    fn prints_a_letter_and_two_digits(rt: HostRuntime) -> Result<(), Fail> {
-        for (code, text) in [
-            (Code::BadEncoding, "E01"),
-            (Code::MisplacedMarker, "E10"),
-            (Code::NotBuilt, "E99"),
-            (Code::BadBase, "N10"),
-            (Code::FuelSpent, "S34"),
-        ] {
-            let printed = code.to_string(rt.alloc())?;
-            assert_eq!(rt; printed.as_str(), text);
-        }
-        Ok(())
-    }
-}

@@ -53,11 +53,16 @@ pub enum Expr {
     Attr(Boxed<Expr>, Text),
     /// The first subscripted by the second.
     Index(Boxed<Expr>, Boxed<Expr>),
-    Call {
-        callee: Boxed<Expr>,
-        args: Exprs,
-        keys: Keywords,
-    },
+    Call(Boxed<Call>),
+}
+
+/// A call with its arguments.
+#[cycle(expr)]
+#[derive(Drop)]
+pub struct Call {
+    pub callee: Expr,
+    pub args: Exprs,
+    pub keys: Keywords,
 }
 
 /// A key of a dictionary display with its value.
@@ -89,8 +94,8 @@ pub struct Param {
 #[derive(Drop)]
 pub enum Target {
     Name(Text),
-    Attr(Expr, Text),
-    Index(Expr, Expr),
+    Attr(Boxed<Expr>, Text),
+    Index(Boxed<Expr>, Boxed<Expr>),
     /// The names of an unpacking.
     Names(Texts),
 }

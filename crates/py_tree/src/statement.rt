@@ -2,6 +2,7 @@ use crate::expression::{Expr, Params, Target};
 use crate::operator::BinaryOp;
 use crate::text::Text;
 use lists::Items;
+use sqlite_items::Boxed;
 
 /// Statements in the order of the text.
 pub type Stmts = Items<Stmt>;
@@ -37,14 +38,14 @@ pub enum StmtKind {
     Eval(Expr),
     Assign(Target, Expr),
     /// A target, its annotation and its value.
-    Annotate(Target, Expr, Option<Expr>),
+    Annotate(Target, Boxed<Expr>, Option<Boxed<Expr>>),
     Augment(Target, BinaryOp, Expr),
     If { branches: Branches, orelse: Stmts },
     While(Expr, Stmts),
-    For(Target, Expr, Stmts),
+    For(Target, Boxed<Expr>, Stmts),
     Try(Stmts, Clauses),
-    Def(Function),
-    Class(ClassDef),
+    Def(Boxed<Function>),
+    Class(Boxed<ClassDef>),
 }
 
 /// A name that is imported, and the name that it is bound to where that is another.

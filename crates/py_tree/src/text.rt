@@ -79,24 +79,3 @@ impl Text {
         self.points.len()
     }
 }
-
-#[cfg(test)]
-mod tests {
-    use super::*;
-    use std::test::Fail;
-
-    #[test]
-    fn a_text_is_its_code_points(rt: HostRuntime) -> Result<(), Fail> {
-        let alloc = rt.alloc();
-        let text = Text::from_str(alloc, "h\u{e9}\u{1f600}")?;
-        assert_eq!(rt; text.len(), 3);
-        assert!(rt; text.as_slice() == ['h', '\u{e9}', '\u{1f600}'].as_slice());
-        assert!(rt; text.copy(alloc)?.same(&text));
-        let other = Text::from_slice(alloc, &['h', '\u{e9}'])?;
-        assert!(rt; !other.same(&text));
-        let mut joined = Text::from_str(alloc, "h")?;
-        joined.append(&Text::from_str(alloc, "\u{e9}")?)?;
-        assert!(rt; joined.same(&other));
-        Ok(())
-    }
-}

@@ -1,7 +1,7 @@
 ghost use Rattle.std.specs.Prelude.{◌≡◌, IfOk};
 
 use super::Duplicate;
-use crate::expression::{Expr, Exprs, Keyword, Keywords, Pair, Pairs, Param, Target};
+use crate::expression::{Call, Expr, Exprs, Keyword, Keywords, Pair, Pairs, Param, Target};
 use sqlite_items::Boxed;
 use std::alloc::{AllocError, Global};
 
@@ -47,11 +47,7 @@ impl Expr {
             }),
             Expr::Attr(e, name) => Ok(Expr::Attr(copy_boxed(alloc, e)?, name.copy(alloc)?)),
             Expr::Index(e, i) => Ok(Expr::Index(copy_boxed(alloc, e)?, copy_boxed(alloc, i)?)),
-            Expr::Call { callee, args, keys } => Ok(Expr::Call {
-                callee: copy_boxed(alloc, callee)?,
-                args: copy_all(alloc, args.as_slice())?,
-                keys: copy_keywords(alloc, keys.as_slice())?,
-            }),
+            Expr::Call(call) => Ok(Expr::Call(copy_call(alloc, call)?)),
         }
     }
 }
@@ -61,6 +57,19 @@ fn copy_boxed(alloc: Global, e: &Boxed<Expr>) -> Result<Boxed<Expr>, AllocError>
     ensures { IfOk result (λ copy. copy ≡ e.now) }
 {
     Boxed::new(alloc, e.get().copy(alloc)?)
+}
+
+#[cycle(copy_expr)]
+fn copy_call(alloc: Global, call: &Boxed<Call>) -> Result<Boxed<Call>, AllocError>
+    ensures { IfOk result (λ copy. copy ≡ call.now) }
+{
+    let Call { callee, args, keys } = call.get();
+    let copy = Call {
+        callee: callee.copy(alloc)?,
+        args: copy_all(alloc, args.as_slice())?,
+        keys: copy_keywords(alloc, keys.as_slice())?,
+    };
+    Boxed::new(alloc, copy)
 }
 
 #[cycle(copy_expr)]
@@ -122,8 +131,8 @@ impl Duplicate for Target {
     fn duplicate(&self, alloc: Global) -> Result<Target, AllocError> {
         match self {
             Target::Name(name) => Ok(Target::Name(name.copy(alloc)?)),
-            Target::Attr(e, name) => Ok(Target::Attr(e.copy(alloc)?, name.copy(alloc)?)),
-            Target::Index(e, i) => Ok(Target::Index(e.copy(alloc)?, i.copy(alloc)?)),
+            Target::Attr(e, name) => Ok(Target::Attr(e.duplicate(alloc)?, name.copy(alloc)?)),
+            Target::Index(e, i) => Ok(Target::Index(e.duplicate(alloc)?, i.duplicate(alloc)?)),
             Target::Names(names) => Ok(Target::Names(names.duplicate(alloc)?)),
         }
     }

@@ -4,6 +4,7 @@ use super::Duplicate;
 use crate::statement::{
     Branch, Branches, ClassDef, Clause, Clauses, Function, Import, Module, Stmt, StmtKind, Stmts,
 };
+use sqlite_items::Boxed;
 use std::alloc::{AllocError, Global};
 
 impl Module {
@@ -51,7 +52,7 @@ impl StmtKind {
             }
             StmtKind::Annotate(target, kind, e) => Ok(StmtKind::Annotate(
                 target.duplicate(alloc)?,
-                kind.copy(alloc)?,
+                kind.duplicate(alloc)?,
                 e.duplicate(alloc)?,
             )),
             StmtKind::Augment(target, op, e) => {
@@ -66,14 +67,14 @@ impl StmtKind {
             }
             StmtKind::For(target, e, body) => Ok(StmtKind::For(
                 target.duplicate(alloc)?,
-                e.copy(alloc)?,
+                e.duplicate(alloc)?,
                 copy_all(alloc, body)?,
             )),
             StmtKind::Try(body, clauses) => {
                 Ok(StmtKind::Try(copy_all(alloc, body)?, copy_clauses(alloc, clauses)?))
             }
-            StmtKind::Def(function) => Ok(StmtKind::Def(function.copy(alloc)?)),
-            StmtKind::Class(class) => Ok(StmtKind::Class(class.copy(alloc)?)),
+            StmtKind::Def(function) => Ok(StmtKind::Def(copy_function(alloc, function)?)),
+            StmtKind::Class(class) => Ok(StmtKind::Class(copy_class(alloc, class)?)),
         }
     }
 }
@@ -104,31 +105,36 @@ impl Clause {
     }
 }
 
-impl Function {
-    #[cycle(copy_stmt)]
-    fn copy(&self, alloc: Global) -> Result<Function, AllocError>
-        ensures { IfOk result (λ copy. copy ≡ self.now) }
-    {
-        Ok(Function {
-            name: self.name.copy(alloc)?,
-            params: self.params.duplicate(alloc)?,
-            result: self.result.duplicate(alloc)?,
-            body: copy_all(alloc, &self.body)?,
-        })
-    }
+#[cycle(copy_stmt)]
+fn copy_function(alloc: Global, function: &Boxed<Function>) -> Result<Boxed<Function>, AllocError>
+    ensures { IfOk result (λ copy. copy ≡ function.now) }
+{
+    let Function {
+        name,
+        params,
+        result: annotation,
+        body,
+    } = function.get();
+    let copy = Function {
+        name: name.copy(alloc)?,
+        params: params.duplicate(alloc)?,
+        result: annotation.duplicate(alloc)?,
+        body: copy_all(alloc, body)?,
+    };
+    Boxed::new(alloc, copy)
 }
 
-impl ClassDef {
-    #[cycle(copy_stmt)]
-    fn copy(&self, alloc: Global) -> Result<ClassDef, AllocError>
-        ensures { IfOk result (λ copy. copy ≡ self.now) }
-    {
-        Ok(ClassDef {
-            name: self.name.copy(alloc)?,
-            base: self.base.duplicate(alloc)?,
-            body: copy_all(alloc, &self.body)?,
-        })
-    }
+#[cycle(copy_stmt)]
+fn copy_class(alloc: Global, class: &Boxed<ClassDef>) -> Result<Boxed<ClassDef>, AllocError>
+    ensures { IfOk result (λ copy. copy ≡ class.now) }
+{
+    let ClassDef { name, base, body } = class.get();
+    let copy = ClassDef {
+        name: name.copy(alloc)?,
+        base: base.duplicate(alloc)?,
+        body: copy_all(alloc, body)?,
+    };
+    Boxed::new(alloc, copy)
 }
 
 #[cycle(copy_stmt)]
