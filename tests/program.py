@@ -1,55 +1,21 @@
 #!/usr/bin/env python3
-"""Runs the built strictone on folders on disk, and compares the bytes that it writes and its exit status with those
-that the rules give. Run it with no words; it builds the program where that is missing. It exits 1 where a row differs."""
+"""Proves and builds strictone, runs it on folders on disk, and compares the bytes that it writes and its exit status with those
+that the rules give. Run it with no words. It exits 1 where a row differs.
+
+Rows of two kinds lie beside it. verdicts.txt has a module's text and what is decided of it, with a tab between them. There
+the picture of a control character (U+2400 and the 31 behind it) stands for that character, and `~N~TEXT~` for so many times that text.
+folders.txt has folders: `== NAME`, `-- file NAME` and the file's lines, `-- report` and its lines, `-- status N`."""
 import os, subprocess, sys, tempfile
 
-TOP = os.path.dirname(os.path.dirname(os.path.abspath(__file__)))
-RUN = os.path.join(TOP, "run")
+HERE = os.path.dirname(os.path.abspath(__file__))
+TOP = os.path.dirname(HERE)
+CRATE = os.path.join(TOP, "crates", "strictone")
+PROGRAM = os.path.join(CRATE, "out", "strictone")
 M = b"import __strict__\n"
 
 # The files of the folder `d`, the words, the bytes on standard output, the exit status.
 ROWS = {
-    "an empty folder": ({}, ["d"], b"", 0),
-    "a published module": ({"a.py": M + b"X = 1\n"}, ["d"], b"module a published 1\n", 0),
-    "a marker without a line end": ({"a.py": b"import __static__"}, ["d"], b"module a published 0\n", 0),
-    "a name that is bound twice": ({"a.py": M + b"X=1\r\nX = 2 # c\n"}, ["d"], b"module a published 1\n", 0),
-    "a statement that isn't built": ({"a.py": M + b"print(1)\n"}, ["d"], b"module a refused line 2 E99\n", 2),
-    "a module without a marker": ({"a.py": b"X = 1\n"}, ["d"], b"module a plain\n", 0),
-    "a file that is too large": ({"a.py": b"#" * 1_048_577}, ["d"], b"module a refused line 1 E02\n", 2),
     "bytes that are no text": ({"a.py": M + b"\xff\n"}, ["d"], b"module a refused line 2 E01\n", 2),
-    "a file that ends inside brackets": ({"a.py": M + b"X = (1,"}, ["d"], b"module a refused line 2 E05\n", 2),
-    "a module that imports": (
-        {"a.py": M + b"import b\nX = 1\n", "b.py": M + b"Y = 2\n"},
-        ["d"],
-        b"module a published 2\nmodule b published 1\n",
-        0,
-    ),
-    "a cycle": (
-        {"a.py": M + b"import b\n", "b.py": M + b"import a\n", "c.py": M + b"import a\n"},
-        ["d"],
-        b"module a refused line 2 N14\nmodule b refused line 2 N14\nmodule c refused line 2 N13\n",
-        2,
-    ),
-    "imports of a refused and of a plain module": (
-        {"a.py": M + b"import b\n", "b.py": M + b"print(1)\n", "c.py": M + b"import p\n", "p.py": b""},
-        ["d"],
-        b"module a refused line 2 N13\nmodule b refused line 2 E99\nmodule c refused line 2 N17\nmodule p plain\n",
-        2,
-    ),
-    "names that no module has": (
-        {"a.py": M + b"X = 1\n", "b.py": M + b"from a import y\n", "c.py": M + b"import zz\n"},
-        ["d"],
-        b"module a published 1\nmodule b refused line 2 N15\nmodule c refused line 2 N12\n",
-        2,
-    ),
-    "names in the order of their bytes": (
-        {"b.py": M, "a1.py": M, "a.py": M, "B.py": M, "\u00e9.py": M, "if.py": M, "typing.py": M, "1a.py": M, "a.txt": M},
-        ["d"],
-        "".join(f"module {name} published 0\n" for name in ["B", "a", "a1", "b", "\u00e9"]).encode(),
-        0,
-    ),
-    "as many statements as are run": ({"a.py": M + b"X = 1\n" * 49_999}, ["d"], b"module a published 1\n", 0),
-    "one statement more": ({"a.py": M + b"X = 1\n" * 50_000}, ["d"], b"module a refused line 50001 S34\n", 2),
     "as many modules as are taken": (
         {f"m{n}.py": M for n in range(1000, 2024)},
         ["d"],
@@ -74,46 +40,54 @@ ROWS = {
     "a name that isn't UTF-8": ({b"\xff.py": M}, ["d"], b"", 4),
 }
 
-# What is decided of a file of 1 MiB that has a marker and then one character alone.
-FILLED = {
-    " ": "published 0",
-    "\t": "published 0",
-    "\n": "published 0",
-    "#": "published 0",
-    "\r": "refused line 2 E04",
-    "\0": "refused line 2 E04",
-    "\f": "refused line 2 E04",
-    "\\": "refused line 2 E04",
-    "'": "refused line 2 E04",
-    '"': "refused line 2 E04",
-    "(": "refused line 2 E08",
-    "[": "refused line 2 E08",
-    "7": "refused line 2 E09",
-    ")": "refused line 2 E05",
-    ",": "refused line 2 E05",
-    "-": "refused line 2 E05",
-    "=": "refused line 2 E05",
-    "_": "refused line 2 N19",
-    "0": "refused line 2 E99",
-    "a": "refused line 2 E99",
-    "\u00e9": "refused line 2 E99",
-}
+
+def lines_of(name):
+    with open(os.path.join(HERE, name), encoding="utf-8", newline="\n") as table:
+        return table.read().split("\n")
 
 
-def filled(character):
-    byte = character.encode()
-    return M + byte * ((1_048_576 - len(M)) // len(byte))
+def spelled(cell):
+    """What a cell of a table spells."""
+    parts = cell.split("~")
+    for place in range(1, len(parts) - 1, 3):
+        parts[place : place + 2] = ["", parts[place + 1] * int(parts[place])]
+    return "".join(chr(ord(c) - 0x2400) if 0x2400 <= ord(c) < 0x2420 else c for c in "".join(parts)).encode()
 
 
-ROWS |= {
-    f"a large file of {character!r}": (
-        {"a.py": filled(character)},
-        ["d"],
-        f"module a {verdict}\n".encode(),
-        2 if verdict.startswith("refused") else 0,
-    )
-    for character, verdict in FILLED.items()
-}
+def verdicts():
+    """The rows of verdicts.txt as folders, of many modules each."""
+    rows = [line.split("\t") for line in lines_of("verdicts.txt") if "\t" in line]
+    for begins in range(0, len(rows), 25):
+        files, output = {}, []
+        for place, (text, verdict) in enumerate(rows[begins : begins + 25]):
+            files[f"r{place:02}.py"] = spelled(text)
+            output.append(f"module r{place:02} {verdict}\n")
+        status = 2 if any(" refused " in line for line in output) else 0
+        yield f"verdicts from row {begins + 1} on", (files, ["d"], "".join(output).encode(), status)
+
+
+def folders():
+    """The rows of folders.txt."""
+    for block in "\n".join(lines_of("folders.txt")).split("== ")[1:]:
+        name, *parts = block.split("\n-- ")
+        files, report = {}, ""
+        for part in parts:
+            head, _, text = part.partition("\n")
+            if head == "report":
+                report = text and text + "\n"
+            elif head.startswith("status "):
+                yield name, (files, ["d"], report.encode(), int(head[7:]))
+            else:
+                files[head[5:]] = (text and text + "\n").encode()
+
+
+def prove():
+    """Proves and builds the program."""
+    if os.path.exists(PROGRAM):
+        os.remove(PROGRAM)
+    done = subprocess.run(["rt", "run", "--"], cwd=CRATE, stdin=subprocess.DEVNULL, stdout=subprocess.PIPE, stderr=subprocess.STDOUT)
+    if not os.path.exists(PROGRAM):
+        sys.exit(done.stdout.decode() + "tests/program.py: the program isn't proved")
 
 
 def make(top, files):
@@ -132,12 +106,13 @@ def differs(name, got, want):
 
 
 def run(top, words, stdout):
-    done = subprocess.run([RUN, *words], cwd=top, stdin=subprocess.DEVNULL, stdout=stdout, stderr=subprocess.PIPE)
+    done = subprocess.run([PROGRAM, *words], cwd=top, stdin=subprocess.DEVNULL, stdout=stdout, stderr=subprocess.PIPE)
     return done.stdout, done.returncode, done.stderr
 
 
-wrong = 0
-for name, (files, words, output, status) in ROWS.items():
+prove()
+wrong, rows = 0, {**ROWS, **dict(verdicts()), **dict(folders())}
+for name, (files, words, output, status) in rows.items():
     with tempfile.TemporaryDirectory() as top:
         make(top, files)
         wrong += differs(name, run(top, words, subprocess.PIPE), (output, status, b""))
@@ -151,5 +126,5 @@ with tempfile.TemporaryDirectory() as top:
     os.close(reader)
     wrong += differs("a closed output", run(top, ["d"], writer), (None, 5, b""))
     os.close(writer)
-print(f"tests/program.py: {len(ROWS) + 3 - wrong} rows as they must be, {wrong} not")
+print(f"tests/program.py: {len(rows) + 3 - wrong} rows as they must be, {wrong} not")
 sys.exit(1 if wrong else 0)

@@ -1,11 +1,12 @@
+use anyhow::Result;
 use py_tree::statement::{Branch, Clause, Module, Stmt, StmtKind};
 use std::alloc::Global;
 use std::fmt::Write;
-use std::test::Fail;
+
 
 /// The statements of a module in the order of the text: each as its line and what it is, with its blocks in braces. A branch of an `if`
 /// stands behind `at` and its line.
-pub(crate) fn shape(alloc: Global, module: &Module) -> Result<String, Fail> {
+pub fn shape(alloc: Global, module: &Module) -> Result<String> {
     let mut out = String::new(alloc);
     for statement in module.body.as_slice() {
         put_statement(statement, &mut out)?;
@@ -36,13 +37,13 @@ fn word(kind: &StmtKind) -> &'static str {
 }
 
 #[cycle(shape)]
-fn put_statement(statement: &Stmt, out: &mut String) -> Result<(), Fail> {
+fn put_statement(statement: &Stmt, out: &mut String) -> Result<()> {
     write!(out, " {} {}", statement.line, word(&statement.kind))?;
     put_blocks(&statement.kind, out)
 }
 
 #[cycle(shape)]
-fn put_block(statements: &[Stmt], out: &mut String) -> Result<(), Fail> {
+fn put_block(statements: &[Stmt], out: &mut String) -> Result<()> {
     out.push_str(" {")?;
     for statement in statements {
         put_statement(statement, out)?;
@@ -52,7 +53,7 @@ fn put_block(statements: &[Stmt], out: &mut String) -> Result<(), Fail> {
 }
 
 #[cycle(shape)]
-fn put_blocks(kind: &StmtKind, out: &mut String) -> Result<(), Fail> {
+fn put_blocks(kind: &StmtKind, out: &mut String) -> Result<()> {
     match kind {
         StmtKind::If { branches, orelse } => {
             put_branches(branches.as_slice(), out)?;
@@ -68,14 +69,14 @@ fn put_blocks(kind: &StmtKind, out: &mut String) -> Result<(), Fail> {
             put_block(body.as_slice(), out)?;
             put_clauses(clauses.as_slice(), out)
         }
-        StmtKind::Def(function) => put_block(function.body.as_slice(), out),
-        StmtKind::Class(class) => put_block(class.body.as_slice(), out),
+        StmtKind::Def(function) => put_block(function.get().body.as_slice(), out),
+        StmtKind::Class(class) => put_block(class.get().body.as_slice(), out),
         _ => Ok(()),
     }
 }
 
 #[cycle(shape)]
-fn put_branches(branches: &[Branch], out: &mut String) -> Result<(), Fail> {
+fn put_branches(branches: &[Branch], out: &mut String) -> Result<()> {
     for branch in branches {
         write!(out, " at {}", branch.line)?;
         put_block(branch.body.as_slice(), out)?;
@@ -84,7 +85,7 @@ fn put_branches(branches: &[Branch], out: &mut String) -> Result<(), Fail> {
 }
 
 #[cycle(shape)]
-fn put_clauses(clauses: &[Clause], out: &mut String) -> Result<(), Fail> {
+fn put_clauses(clauses: &[Clause], out: &mut String) -> Result<()> {
     for clause in clauses {
         out.push_str(match &clause.matches {
             Some(_) => " except-e",

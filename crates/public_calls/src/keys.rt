@@ -1,0 +1,50 @@
+use key_map::map::KeyMap;
+use key_map::key::{Key, KeyText, Keys};
+use std::alloc::{AllocError, Global};
+use std::test::Fail;
+
+fn text(alloc: Global, points: &[char]) -> Result<Key, AllocError> {
+    Ok(Key::Str(KeyText::from_slice(alloc, points)?))
+}
+
+fn pair(alloc: Global, first: Key, second: Key) -> Result<Key, AllocError> {
+    let mut items = Keys::new(alloc);
+    items.push(first)?;
+    items.push(second)?;
+    Ok(Key::Tuple(items))
+}
+
+#[test]
+fn an_equal_key_keeps_its_first_form_and_its_place(rt: HostRuntime) -> Result<(), Fail> {
+    let mut map = KeyMap::new(rt.alloc());
+    map.put(Key::Int(1), "1", 'a')?;
+    map.put(Key::Int(2), "2", 'c')?;
+    map.put(Key::Int(1), "True", 'b')?;
+    assert_eq!(rt; map.len(), 2);
+    assert_eq!(rt; map.at(0), Some((&"1", &'b')));
+    assert_eq!(rt; map.at(1), Some((&"2", &'c')));
+    assert_eq!(rt; map.at(2), None);
+    Ok(())
+}
+
+#[test]
+fn keys_are_found_by_what_they_hold(rt: HostRuntime) -> Result<(), Fail> {
+    let alloc = rt.alloc();
+    let mut map = KeyMap::new(alloc);
+    map.put(Key::Nil, 0, 0)?;
+    map.put(Key::Int(0), 1, 1)?;
+    map.put(text(alloc, &['0'])?, 2, 2)?;
+    map.put(text(alloc, &[])?, 3, 3)?;
+    map.put(Key::Tuple(Keys::new(alloc)), 4, 4)?;
+    map.put(pair(alloc, Key::Int(0), text(alloc, &['0'])?)?, 5, 5)?;
+    map.put(pair(alloc, text(alloc, &['0'])?, Key::Int(0))?, 6, 6)?;
+    assert_eq!(rt; map.len(), 7);
+    assert_eq!(rt; map.find(&Key::Nil), Some(&0));
+    assert_eq!(rt; map.find(&text(alloc, &['0'])?), Some(&2));
+    assert_eq!(rt; map.find(&Key::Tuple(Keys::new(alloc))), Some(&4));
+    let key = pair(alloc, Key::Int(0), text(alloc, &['0'])?)?;
+    assert_eq!(rt; map.find(&key), Some(&5));
+    assert_eq!(rt; map.find(&pair(alloc, Key::Int(0), Key::Int(0))?), None);
+    assert_eq!(rt; map.find(&Key::Int(1)), None);
+    Ok(())
+}

@@ -1,0 +1,37 @@
+//! Each public call of the layers once on its happy path, with its answer compared. It has tests alone, so that each layer is proved once.
+#![tactic(auto)]
+
+#[cfg(test)]
+mod atoms;
+#[cfg(test)]
+mod disk_folder;
+#[cfg(test)]
+mod folders;
+#[cfg(test)]
+mod graph;
+#[cfg(test)]
+mod imports;
+#[cfg(test)]
+mod keys;
+#[cfg(test)]
+mod lexer;
+#[cfg(test)]
+mod lists;
+#[cfg(test)]
+mod memory_folder;
+#[cfg(test)]
+mod phrases;
+#[cfg(test)]
+mod registry;
+#[cfg(test)]
+mod run;
+#[cfg(test)]
+mod segment;
+#[cfg(test)]
+mod sinks;
+#[cfg(test)]
+mod trees;
+#[cfg(test)]
+mod values;
+#[cfg(test)]
+mod verdicts;

@@ -1,0 +1,160 @@
+ghost use Rattle.heap_seg.specs.declared.rules.Answer.TheVariants as answer;
+ghost use Rattle.py_tree.specs.declared.code.Code.TheVariants as code;
+
+use heap_seg::object::{Change, Object};
+use heap_seg::rules::{Answer, Rules};
+use heap_seg::segment::Segment;
+use key_map::key::Key;
+use py_tree::code::Code;
+use py_tree::expression::Texts;
+use py_tree::text::Text;
+use py_values::class_id::ClassId;
+use py_values::exception::ExcKind;
+use py_values::value::{Home, Value};
+use std::test::Fail;
+
+const HOME: Home = Home::Module(2);
+
+#[test]
+fn made_objects_hold_what_they_were_made_of(rt: HostRuntime) -> Result<(), Fail> {
+    let mut segment = Segment::new(rt.alloc(), HOME);
+    segment.make_list(&[Value::Int(1), Value::Nil])?;
+    segment.make_tuple(&[Value::Int(2)])?;
+    segment.make_text(&['a', 'b'])?;
+    segment.make_dict()?;
+    segment.make_range(0, 3, -1)?;
+    segment.make_bound(Value::Nil, Value::Bool(true))?;
+    segment.make_instance(ClassId::Exc(ExcKind::KeyError), &[None])?;
+    assert!(rt; items(segment.get(0)) == [Value::Int(1), Value::Nil].as_slice());
+    assert!(rt;
+        matches!(segment.get(1), Object::Tuple(items) if items.as_slice() == [Value::Int(2)].as_slice())
+    );
+    assert!(rt;
+        matches!(segment.get(2), Object::Text(text) if text.as_slice() == ['a', 'b'].as_slice())
+    );
+    assert!(rt; matches!(segment.get(3), Object::Dict(entries) if entries.len() == 0));
+    assert!(rt;
+        matches!(
+            segment.get(4),
+            Object::Range {
+                start: 0,
+                stop: 3,
+                step: -1
+            }
+        )
+    );
+    assert!(rt;
+        matches!(
+            segment.get(5),
+            Object::Bound {
+                receiver: Value::Nil,
+                method: Value::Bool(true)
+            }
+        )
+    );
+    assert!(rt;
+        matches!(segment.get(6), Object::Instance { class: ClassId::Exc(ExcKind::KeyError), slots } if slots.as_slice() == [None].as_slice())
+    );
+    Ok(())
+}
+
+/// The items of a list, or nothing where another object stands there.
+fn items(object: &Object) -> &[Value] {
+    match object {
+        Object::List(items) => items.as_slice(),
+        _ => &[],
+    }
+}
+
+#[test]
+fn a_write_changes_the_object_at_its_place(rt: HostRuntime) -> Result<(), Fail> {
+    let mut segment = Segment::new(rt.alloc(), HOME);
+    segment.make_list(&[Value::Int(1)])?;
+    segment.make_list(&[Value::Int(2)])?;
+    segment.write(1, Change::Push(Value::Int(3)))?;
+    assert!(rt; items(segment.get(0)) == [Value::Int(1)].as_slice());
+    assert!(rt; items(segment.get(1)) == [Value::Int(2), Value::Int(3)].as_slice());
+    Ok(())
+}
+
+#[test]
+fn a_key_is_put(rt: HostRuntime) -> Result<(), Fail> {
+    let mut segment = Segment::new(rt.alloc(), HOME);
+    segment.make_dict()?;
+    segment.write(0, Change::Put(Key::Int(1), Value::Bool(true), Value::Nil))?;
+    match segment.get(0) {
+        Object::Dict(entries) => {
+            assert_eq!(rt; entries.len(), 1);
+            assert_eq!(rt; entries.at(0), Some((&Value::Bool(true), &Value::Nil)));
+            assert_eq!(rt; entries.find(&Key::Int(1)), Some(&Value::Nil));
+        }
+        _ => assert!(rt; false),
+    }
+    Ok(())
+}
+
+#[test]
+fn a_slot_is_set(rt: HostRuntime) -> Result<(), Fail> {
+    let mut segment = Segment::new(rt.alloc(), HOME);
+    segment.make_instance(ClassId::User { home: 2, number: 0 }, &[None, None])?;
+    segment.write(0, Change::SetSlot(1, Value::Int(5)))?;
+    match segment.get(0) {
+        Object::Instance { slots, .. } => {
+            assert!(rt; slots.as_slice() == [None, Some(Value::Int(5))].as_slice());
+        }
+        _ => assert!(rt; false),
+    }
+    Ok(())
+}
+
+#[test]
+fn globals_and_default_values_are_kept(rt: HostRuntime) -> Result<(), Fail> {
+    let alloc = rt.alloc();
+    let mut segment = Segment::new(alloc, Home::Run);
+    let mut names = Texts::new(alloc);
+    names.push(Text::from_str(alloc, "x")?)?;
+    names.push(Text::from_str(alloc, "y")?)?;
+    segment.open_globals(&names)?;
+    segment.set_global(1, Value::Int(7));
+    segment.set_default(3, 0, Value::Int(8))?;
+    segment.set_default(3, 0, Value::Int(9))?;
+    assert_eq!(rt; segment.default_value(3, 0), Some(Value::Int(9)));
+    assert_eq!(rt; segment.default_value(0, 3), None);
+    let globals = segment.take_globals();
+    assert_eq!(rt; globals.len(), 2);
+    assert_eq!(rt; globals.at(0).value, None);
+    assert_eq!(rt; globals.at(1).value, Some(Value::Int(7)));
+    assert!(rt; globals.at(1).name.same(&Text::from_str(alloc, "y")?));
+    assert_eq!(rt; segment.take_globals().len(), 0);
+    Ok(())
+}
+
+/// Prints are refused, and the rest is done.
+struct Silent;
+
+impl Rules for Silent {
+    ghost mode = { λ rules. record { on_write = λ home. answer.Go; on_print = answer.Refuse code.Effect; on_look = answer.Go } };
+
+    fn on_write(&self, _home: Home) -> Answer {
+        Answer::Go
+    }
+
+    fn on_print(&self) -> Answer {
+        Answer::Refuse(Code::Effect)
+    }
+
+    fn on_look(&self) -> Answer {
+        Answer::Go
+    }
+}
+
+fn answers<R: Rules>(rules: &R) -> [Answer; 3] {
+    [rules.on_write(Home::Run), rules.on_print(), rules.on_look()]
+}
+
+#[test]
+fn rules_answer_by_their_mode(rt: HostRuntime) -> Result<(), Fail> {
+    let wanted = [Answer::Go, Answer::Refuse(Code::Effect), Answer::Go];
+    assert_eq!(rt; answers(&Silent), wanted);
+    Ok(())
+}

@@ -1,0 +1,26 @@
+use py_values::exception::ExcKind;
+use py_values::kind::{ValueKind, kind};
+use py_values::value::{Home, Ref, Value};
+use std::test::Fail;
+
+#[test]
+fn index_errors_are_lookup_errors(rt: HostRuntime) -> Result<(), Fail> {
+    assert_eq!(rt; ExcKind::IndexError.base(), Some(ExcKind::LookupError));
+    assert_eq!(rt; ExcKind::LookupError.name(), "LookupError");
+    assert!(rt; ExcKind::KeyError.is_below(ExcKind::Exception));
+    assert!(rt; !ExcKind::KeyError.is_below(ExcKind::ArithmeticError));
+    Ok(())
+}
+
+
+#[test]
+fn objects_are_told_apart_by_their_places_alone(rt: HostRuntime) -> Result<(), Fail> {
+    let place = Ref {
+        home: Home::Module(3),
+        place: 7,
+    };
+    assert_eq!(rt; kind(Value::Obj(place)), ValueKind::Object);
+    assert_eq!(rt; kind(Value::Str(place)), ValueKind::Str);
+    assert_eq!(rt; kind(Value::Bool(true)), ValueKind::Bool);
+    Ok(())
+}
