@@ -3,11 +3,7 @@
 #![tactic(auto)]
 
 pub mod arithmetic;
-#[cfg(test)]
-mod edges;
 mod floored;
 pub mod laws;
 pub mod read_int;
-#[cfg(test)]
-mod tests;
 pub mod text;
