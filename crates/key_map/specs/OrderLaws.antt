@@ -19,12 +19,14 @@ both Greater p = refl
 
 mutual
   pub is_eq-order : (a b : Key) → is_eq (order a b) ≡ same a b
+  is_eq-order Nil Nil = refl
   is_eq-order (Int a) (Int b) = refl
   is_eq-order (Text a) (Text b) = is_eq-slice_cmp a b
   is_eq-order (Tuple ks) (Tuple ls) = is_eq-order_of_items ks ls
   is_eq-order a b = refl
 
   is_eq-order_of_items : (ks ls : Keys) → is_eq (order_of_items ks ls) ≡ all_same ks ls
+  is_eq-order_of_items end_of_keys end_of_keys = refl
   is_eq-order_of_items (more_keys a ks) (more_keys b ls) =
       both (order a b) (order_of_items ks ls) ∙ ap (λ z. z && is_eq (order_of_items ks ls)) (is_eq-order a b) ∙ ap (λ z. same a b && z) (is_eq-order_of_items ks ls)
   is_eq-order_of_items ks ls = refl
@@ -36,12 +38,14 @@ reversed_then Greater p = refl
 
 mutual
   antisymmetric : (a b : Key) → order a b ≡ ordering_reverse (order b a)
+  antisymmetric Nil Nil = refl
   antisymmetric (Int a) (Int b) = int_cmp_total.antisymm a b
   antisymmetric (Text a) (Text b) = nat_list_cmp_total.antisymm a b
   antisymmetric (Tuple ks) (Tuple ls) = items_antisymmetric ks ls
   antisymmetric a b = refl
 
   items_antisymmetric : (ks ls : Keys) → order_of_items ks ls ≡ ordering_reverse (order_of_items ls ks)
+  items_antisymmetric end_of_keys end_of_keys = refl
   items_antisymmetric (more_keys a ks) (more_keys b ls) =
       ap (λ z. ordering_then z (order_of_items ks ls)) (antisymmetric a b)
       ∙ ap (ordering_then (ordering_reverse (order b a))) (items_antisymmetric ks ls)

@@ -45,5 +45,9 @@ fn compare_items(a: &[Key], b: &[Key]) -> Ordering
             return order;
         }
     }
-    a.len().cmp(&b.len())
+    if a.len() == b.len() {
+        Ordering::Equal
+    } else {
+        Ordering::Less
+    }
 }
