@@ -1,5 +1,5 @@
 -- The names of the builtins, and of the methods of texts, lists and dictionaries.
-use Rattle.std.specs.Prelude.{◌≡◌, ℕ, List, [], ◌∷◌, codes, Option, Some}
+use Rattle.std.specs.Prelude.{◌≡◌, ℕ, List, [], ◌∷◌, map, codes, Option, Some}
 use Rattle.std.specs.List.{All, find}
 use Rattle.std.specs.Str.{bytes_eq}
 use Rattle.py_values.specs.declared.builtin.Builtin.{Builtin}
@@ -41,6 +41,9 @@ name_of DictUpdate = codes "update"
 abbrev pub builtins : List Builtin
 builtins =
     Object ∷ Print ∷ Len ∷ Range ∷ Str ∷ Repr ∷ Bool ∷ ListType ∷ Tuple ∷ Dict ∷ Int ∷ Abs ∷ Min ∷ Max ∷ Ord ∷ Chr ∷ IsInstance ∷ []
+
+abbrev pub builtin_names : List (List ℕ)
+builtin_names = map name_of builtins
 
 abbrev pub text_methods : List Builtin
 text_methods = TextJoin ∷ TextSplit ∷ TextStartsWith ∷ TextEndsWith ∷ []
