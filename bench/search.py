@@ -26,17 +26,17 @@ fn repeated(alloc: Global, point: char, count: usize) -> Result<Vec<char>, Alloc
 
 fn places(alloc: Global, part: &[char], text: &[char]) -> Result<usize, AllocError> {
     let pattern = Pattern::new(alloc, part)?;
-    let (mut from, mut count) = (0, 0);
-    while from <= text.len() {
-        match pattern.find(text, from) {
+    let (mut from, mut last): (usize, usize) = (0, 0);
+    for _ in 0..text.len() {
+        match pattern.find(text, from.min(text.len())) {
             Some(place) => {
-                count = place.max(count);
-                from = place.max(from).saturating_add(1);
+                last = place;
+                from = place.saturating_add(1);
             }
-            None => return Ok(count),
+            None => return Ok(last),
         }
     }
-    Ok(count)
+    Ok(last)
 }
 
 fn main(rt: HostRuntime) -> io::Result<()> {
