@@ -5,3 +5,6 @@ pub mod IntTexts
 pub mod Operands
 pub mod Operators
 pub mod Rows
+pub mod Atoms
+pub mod Search
+pub mod Shared

@@ -12,6 +12,7 @@ pub data Operand : Type 0 where
   Points : Text → Operand  -- a text
   Prim64 : ℤ → Operand  -- an int64
   PrimBool : Bool → Operand  -- a cbool
+  Opaque : Operand  -- a value of another kind: what it holds, and whether it is a certain one, is told before the table is asked
   Host : Operand  -- a value that isn't known yet
 
 pub data Answer : Type 0 where
@@ -59,6 +60,7 @@ is_true (Int n) = not (int_eq n (pos 0))
 is_true (Points text) = not (is_empty text)
 is_true (Prim64 n) = not (int_eq n (pos 0))
 is_true (PrimBool b) = b
+is_true Opaque = true
 is_true Host = false  -- never asked
 
 abbrev pub is_host : Operand → Bool

@@ -2,9 +2,9 @@
 --
 -- In it are the operators but `and` and `or`, and the builtins and methods of texts that `Callee` lists, of None, bools, ints, texts, `int64`s,
 -- `cbool`s and host values. Not in it is what has to see objects: lists, tuples, dictionaries, ranges, instances, classes, functions, modules,
--- the builtins that make or go through them, and `print`, `min` and `max`. The fuel of a call begun isn't in a row, nor are keywords, of which
+-- which are opaque here, the builtins that make or go through them, and `print`, `min` and `max`. The fuel of a call begun isn't in a row, nor are keywords, of which
 -- no builtin takes any. Static types keep a primitive from standing beside another value: these rows are never asked for.
-use Rattle.std.specs.Prelude.{ℕ, min, Bool, true, false, not, ◌||◌, if◌then◌else◌, List, [], ◌∷◌, ◌++◌, length, reverse, slice_get, nat_eq, nat_le, ◌==◌, Option, Some, None, ℤ, pos, negsuc, neg_ℤ, unsigned_abs, codes}
+use Rattle.std.specs.Prelude.{ℕ, min, Bool, true, false, not, ◌||◌, if◌then◌else◌, List, [], ◌∷◌, ◌++◌, length, reverse, slice_get, nat_eq, nat_le, nat_lt, ◌-◌, suc, ◌==◌, Option, Some, None, Result, ℤ, pos, negsuc, neg_ℤ, unsigned_abs, codes}
 use Rattle.std.specs.Ordering.{int_cmp, is_eq, is_ne, is_lt, is_le, is_gt, is_ge}
 use Rattle.std.specs.declared.cmp.Ordering.{Ordering}
 use Rattle.std.specs.Fmt.{signed_decimal}
@@ -19,6 +19,7 @@ use Rattle.py_tree.specs.declared.operator.CompareOp.{CompareOp}
 use Rattle.py_tree.specs.declared.operator.CompareOp.TheVariants.{Eq, Ne, Lt, Le, Gt, Ge, In, NotIn}
 use Rattle.py_tree.specs.declared.operator.Const.{Const}
 use Rattle.py_tree.specs.declared.operator.Const.TheVariants as constant
+use Rattle.py_values.specs.declared.exception.ExcKind.{ExcKind}
 use Rattle.py_values.specs.declared.exception.ExcKind.TheVariants.{IndexError, ValueError}
 use Rattle.atom_ops.specs.Arithmetic.{as_int, int_result, negated, primitive_result, wrapped}
 use Rattle.atom_ops.specs.Texts.{order_of, repr_of}
@@ -70,6 +71,11 @@ abbrev pub binary : BinaryOp → Operand → Operand → Row
 binary op (Prim64 a) (Prim64 b) = free (answer_of Prim64 (primitive_result op a b))
 binary Add (Points a) (Points b) = at_cost (length (a ++ b)) (Points (a ++ b))
 binary op a b = of_numbers op (number_of a) (number_of b)
+
+-- the same of all but two texts
+abbrev pub calculated : BinaryOp → Operand → Operand → Row
+calculated op (Prim64 a) (Prim64 b) = free (answer_of Prim64 (primitive_result op a b))
+calculated op a b = of_numbers op (number_of a) (number_of b)
 
 -- ---- comparisons
 
@@ -141,6 +147,11 @@ abbrev pub point_at : Text → ℤ → Option ℕ
 point_at text (pos n) = slice_get text n
 point_at text (negsuc n) = slice_get (reverse text) n
 
+-- the same for whatever has so many items: the place from 0
+abbrev pub place_in : ℕ → ℤ → Option ℕ
+place_in count (pos n) = if nat_lt n count then Some n else None
+place_in count (negsuc n) = if nat_lt n count then Some (count - suc n) else None
+
 abbrev pub character_or : Option ℕ → Answer → Answer
 character_or (Some point) other = Gives (Points (point ∷ []))
 character_or None other = other
@@ -177,6 +188,15 @@ abbrev pub character : ℤ → Option ℕ
 character (pos n) = if scalar n then Some n else None
 character (negsuc n) = None
 
+-- the code of a text of one code point
+abbrev pub code_of : Text → Option ℤ
+code_of (point ∷ []) = Some (pos point)
+code_of text = None
+
+-- how far a number is from 0
+abbrev pub magnitude : ℤ → Result ℤ ExcKind
+magnitude n = as_int (pos (unsigned_abs n))
+
 -- with fewer or more operands than it takes, and with other operands, none gives anything
 abbrev pub called : Callee → List Operand → Row
 called Len (Points text ∷ []) = free (answer_of Int (as_int (pos (length text))))
@@ -189,8 +209,8 @@ called ToStr (a ∷ []) = produced (written a)
 called ToRepr (a ∷ []) = produced (written a)
 called ToBool [] = free (Gives (Truth false))
 called ToBool (a ∷ []) = free (Gives (Truth (is_true a)))
-called Abs (a ∷ []) = of_number (λ n. answer_of Int (as_int (pos (unsigned_abs n)))) (number_of a)
-called Ord (Points (point ∷ []) ∷ []) = free (Gives (Int (pos point)))
+called Abs (a ∷ []) = of_number (λ n. answer_of Int (magnitude n)) (number_of a)
+called Ord (Points text ∷ []) = of_number (λ n. Gives (Int n)) (code_of text)
 called Chr (a ∷ []) = of_number (λ n. character_or (character n) (Raises ValueError)) (number_of a)
 called StartsWith (Points text ∷ Points part ∷ []) = at_cost (length part) (Truth (starts_with nat_eq text part))
 called EndsWith (Points text ∷ Points part ∷ []) = at_cost (length part) (Truth (ends_with nat_eq text part))

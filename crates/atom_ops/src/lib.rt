@@ -1,13 +1,12 @@
-//! The rows of the operator table that ask for no object: arithmetic of `int` and `int64`, the order and `repr` of texts, and the
-//! reading of an `int` from a text.
+//! The rows of the operator table that ask for no object: arithmetic, comparisons and truth values of ints, texts and primitives,
+//! what builtins give of them, and the search for a part in a text.
 #![tactic(auto)]
 
 pub mod arithmetic;
-#[cfg(test)]
-mod edges;
+pub mod atom;
+pub mod builtin;
 mod floored;
 pub mod laws;
 pub mod read_int;
-#[cfg(test)]
-mod tests;
+pub mod search;
 pub mod text;

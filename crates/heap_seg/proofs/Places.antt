@@ -1,5 +1,5 @@
 -- What a change of one object, or of one global, makes of the list.
-use Rattle.std.proofs.Common.{◌≡◌, ◌<◌, ℕ, zero, suc, List, [], ◌∷◌, map, length, Some, refl, ap, ◌∙◌, slice_get, slice_set, slice_index_or, arith}
+use Rattle.std.proofs.Common.{◌≡◌, ◌<◌, ℕ, zero, suc, List, [], ◌∷◌, map, length, Option, Some, refl, ap, ◌∙◌, slice_get, slice_set, slice_index_or, arith}
 use Rattle.std.proofs.lemmas.List.{map-set}
 use Rattle.std.proofs.Math.Seq.{map-set_same}
 use Rattle.py_values.specs.declared.value.Value.{Value}
@@ -7,7 +7,7 @@ use Rattle.heap_seg.specs.declared.globals.Global.{Global}
 use Rattle.heap_seg.specs.declared.object.Object.{Object}
 use Rattle.heap_seg.specs.declared.object.Change.{Change}
 use Rattle.heap_seg.specs.Things.{Thing, thing_of, changed}
-use Rattle.heap_seg.specs.Globals.{set_at}
+use Rattle.heap_seg.specs.Globals.{with_value}
 
 stands : (os : List Object) (i : ℕ) (o : Object) (t : Thing) → o ≡ slice_index_or os i o → slice_get (map thing_of os) i ≡ Some t → thing_of o ≡ t
 stands [] i o t e h = absurd cc
@@ -21,10 +21,10 @@ changed_at os i o new change e made t h = map-set thing_of os i new ∙ ap (slic
 pub same_at : (os : List Object) (i : ℕ) (o new : Object) → o ≡ slice_index_or os i o → thing_of new ≡ thing_of o → map thing_of (slice_set os i new) ≡ map thing_of os
 same_at os i o new e same = map-set_same thing_of os i new o (same ∙ ap thing_of e)
 
-abbrev bind : Value → List Global → Global → List Global
-bind value gs g = record g { value = Some value } ∷ gs
+abbrev bind : Option Value → List Global → Global → List Global
+bind value gs g = record g { value = value } ∷ gs
 
-pub bound_at : (gs : List Global) (i : ℕ) (g : Global) (value : Value) → i < length gs → g ≡ slice_index_or gs i g → slice_set gs i (record g { value = Some value }) ≡ set_at gs i value
+pub bound_at : (gs : List Global) (i : ℕ) (g : Global) (value : Option Value) → i < length gs → g ≡ slice_index_or gs i g → slice_set gs i (record g { value = value }) ≡ with_value gs i value
 bound_at [] i g value h e = refl
 bound_at (x ∷ gs) zero g value h e = ap (bind value gs) e
 bound_at (x ∷ gs) (suc i) g value h e = ap (λ z. x ∷ z) (bound_at gs i g value (omega (arith, h)) e)

@@ -1,14 +1,13 @@
 -- What a segment holds, and what stays as it was.
-use Rattle.std.specs.Prelude.{◌≡◌, ℕ, List, [], ◌∷◌, ◌++◌, map, length, slice_get, slice_set, Option, Some}
-use Rattle.py_values.specs.declared.value.Value.{Value}
+use Rattle.std.specs.Prelude.{◌≡◌, ℕ, List, [], ◌∷◌, ◌++◌, map, length, slice_get, slice_set, Some}
 use Rattle.py_values.specs.declared.value.Home.{Home}
 use Rattle.py_values.specs.declared.value.Ref.{Ref}
+use Rattle.heap_seg.specs.declared.defaults.DefaultRow.{DefaultRow}
 use Rattle.heap_seg.specs.declared.globals.Global.{Global}
 use Rattle.heap_seg.specs.declared.object.Change.{Change}
 use Rattle.heap_seg.specs.declared.segment.Segment.{Segment}
 use Rattle.heap_seg.specs.Things.{Thing, Fits, thing_of, changed}
-use Rattle.heap_seg.specs.Defaults as defaults
-use Rattle.heap_seg.specs.Defaults.{default_of}
+use Rattle.heap_seg.specs.Defaults.{rows_of}
 
 abbrev pub home_of : Segment → Home
 home_of s = s.home
@@ -20,14 +19,14 @@ things s = map thing_of s.objects.items
 abbrev pub globals_in : Segment → List Global
 globals_in s = s.globals
 
-abbrev pub defaults_in : Segment → ℕ → ℕ → Option Value
-defaults_in s = default_of s.defaults
+abbrev pub defaults_in : Segment → List DefaultRow
+defaults_in s = rows_of s.defaults
 
 -- all but the globals is as before
 pub record ChangesGlobals (old new : Segment) : Type 0 where
   pub home : home_of new ≡ home_of old
   pub things : things new ≡ things old
-  pub defaults : defaults.Same (defaults_in old) (defaults_in new)
+  pub defaults : defaults_in new ≡ defaults_in old
 
 -- all but the default values is as before
 pub record ChangesDefaults (old new : Segment) : Type 0 where
@@ -39,7 +38,7 @@ pub record ChangesDefaults (old new : Segment) : Type 0 where
 pub record ChangesThings (old new : Segment) : Type 0 where
   pub home : home_of new ≡ home_of old
   pub globals : globals_in new ≡ globals_in old
-  pub defaults : defaults.Same (defaults_in old) (defaults_in new)
+  pub defaults : defaults_in new ≡ defaults_in old
 
 -- all is as before
 pub record Same (old new : Segment) : Type 0 where

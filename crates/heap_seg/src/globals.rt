@@ -1,5 +1,5 @@
 ghost use Rattle.std.specs.Prelude.{◌≡◌, ◌<◌, ◌++◌, [], ◌∷◌, Some, OnOk, OnErr, length, slice_get};
-ghost use Rattle.heap_seg.specs.Globals.{set_at};
+ghost use Rattle.heap_seg.specs.Globals.{with_value};
 
 use py_tree::text::Text;
 use py_values::value::Value;
@@ -62,11 +62,11 @@ impl Globals {
         &self.rows[place]
     }
 
-    /// Binds the global at a place, from 0. Takes no memory.
-    pub fn set(&mut self, place: usize, value: Value)
+    /// Binds the global at a place, from 0, or unbinds it. Takes no memory.
+    pub fn set(&mut self, place: usize, value: Option<Value>)
         requires there { place < length self.old }
-        ensures bound { self.new ≡ set_at self.old place value }
+        ensures bound { self.new ≡ with_value self.old place value }
     {
-        self.rows[place].value = Some(value);
+        self.rows[place].value = value;
     }
 }

@@ -7,5 +7,3 @@ pub mod globals;
 pub mod object;
 pub mod rules;
 pub mod segment;
-#[cfg(test)]
-mod tests;

@@ -1,11 +1,11 @@
-ghost use Rattle.std.specs.Prelude.{◌≡◌, ◌≢◌, ◌<◌, ℕ, [], Some, None, OnOk, OnErr, IfOk, length, slice_get, pos};
-ghost use Rattle.heap_seg.specs.Defaults.{IsSet};
-ghost use Rattle.heap_seg.specs.Globals.{set_at, unbound};
+ghost use Rattle.std.specs.Prelude.{◌≡◌, ◌≢◌, ◌<◌, [], Some, OnOk, OnErr, IfOk, length, slice_get, pos};
+ghost use Rattle.heap_seg.specs.Defaults.{default_of, with_default};
+ghost use Rattle.heap_seg.specs.Globals.{set_at, unbound, unset_at, values_of};
 ghost use Rattle.heap_seg.specs.Segments.{ChangesDefaults, ChangesGlobals, FitsAt, IsChanged, IsMade, Same, defaults_in, globals_in, home_of, things};
 ghost use Rattle.heap_seg.specs.Things.{thing_of};
 ghost use Rattle.heap_seg.specs.Things as thing;
 
-use crate::defaults::Defaults;
+use crate::defaults::{DefaultRow, Defaults};
 use crate::globals::{Global, Globals};
 use crate::object::{Change, Object, Slots, Values};
 use key_map::map::KeyMap;
@@ -33,7 +33,7 @@ impl Segment {
         ensures home { home_of result ≡ home }
         ensures things { things result ≡ [] }
         ensures globals { globals_in result ≡ [] }
-        ensures defaults { (function number : ℕ) → defaults_in result function number ≡ None }
+        ensures defaults { defaults_in result ≡ [] }
     {
         Segment {
             alloc,
@@ -122,6 +122,36 @@ impl Segment {
         self.make(Object::Instance { class, slots })
     }
 
+    /// Makes a list that holds these items themselves. Takes no memory for them.
+    pub fn make_list_of(&mut self, items: Values) -> Result<Ref, AllocError>
+        ensures ok { IfOk result (λ made. IsMade (thing.Listed items) self.old self.new made) }
+        ensures err { OnErr result (Same self.old self.new) }
+    {
+        self.make(Object::List(items))
+    }
+
+    /// Makes a text that holds this one itself. Takes no memory for its code points.
+    pub fn make_text_of(&mut self, text: Text) -> Result<Ref, AllocError>
+        ensures ok { IfOk result (λ made. IsMade (thing.Texted text) self.old self.new made) }
+        ensures err { OnErr result (Same self.old self.new) }
+    {
+        self.make(Object::Text(text))
+    }
+
+    /// The home of its objects. Takes no memory.
+    pub fn home(&self) -> Home
+        ensures home { result ≡ home_of self.now }
+    {
+        self.home
+    }
+
+    /// The number of objects. Takes no memory.
+    pub fn len(&self) -> usize
+        ensures count { result ≡ length (things self.now) }
+    {
+        self.objects.len()
+    }
+
     /// The object at a place. Takes no memory.
     pub fn get(&self, place: usize) -> &Object
         requires there { place < length (things self.now) }
@@ -142,7 +172,7 @@ impl Segment {
 
     /// Sets the default value of a parameter, by the numbers of its function and of itself.
     pub fn set_default(&mut self, function: u32, param: u32, value: Value) -> Result<(), AllocError>
-        ensures ok { OnOk result (IsSet function param value (defaults_in self.old) (defaults_in self.new) × ChangesDefaults self.old self.new) }
+        ensures ok { OnOk result ((defaults_in self.new ≡ with_default function param value (defaults_in self.old)) × ChangesDefaults self.old self.new) }
         ensures err { OnErr result (Same self.old self.new) }
     {
         self.defaults.set(function, param, value)
@@ -150,9 +180,16 @@ impl Segment {
 
     /// The default value of a parameter, where it was set. Takes no memory.
     pub fn default_value(&self, function: u32, param: u32) -> Option<Value>
-        ensures value { result ≡ defaults_in self.now function param }
+        ensures value { result ≡ default_of function param (defaults_in self.now) }
     {
         self.defaults.get(function, param)
+    }
+
+    /// The row of the default values at a place, from 0. Takes no memory.
+    pub fn default_at(&self, place: usize) -> Option<DefaultRow>
+        ensures row { result ≡ slice_get (defaults_in self.now) place }
+    {
+        self.defaults.at(place)
     }
 
     /// Puts globals of these names, none of them bound, in the place of those that are there.
@@ -170,7 +207,24 @@ impl Segment {
         ensures bound { globals_in self.new ≡ set_at (globals_in self.old) number value }
         ensures others { ChangesGlobals self.old self.new }
     {
-        self.globals.set(number as usize, value);
+        self.globals.set(number as usize, Some(value));
+    }
+
+    /// Unbinds a global, by its number from 0. Takes no memory.
+    pub fn unset_global(&mut self, number: u32)
+        requires there { number < length (globals_in self.old) }
+        ensures unbound { globals_in self.new ≡ unset_at (globals_in self.old) number }
+        ensures others { ChangesGlobals self.old self.new }
+    {
+        self.globals.set(number as usize, None);
+    }
+
+    /// The value of a global, by its number from 0, where it is bound. Takes no memory.
+    pub fn global(&self, number: u32) -> Option<Value>
+        requires there { number < length (globals_in self.now) }
+        ensures value { slice_get (values_of (globals_in self.now)) number ≡ Some result }
+    {
+        self.globals.at(number as usize).value
     }
 
     /// Gives the globals, and leaves none. Takes no memory.

@@ -1,5 +1,5 @@
 -- The entries of a dictionary, by the rows that it keeps.
-use Rattle.std.proofs.Common.{◌≡◌, ℕ, Bool, true, false, if◌then◌else◌, List, [], ◌∷◌, map, Some, None, refl, ap, ◌∙◌, slice_get}
+use Rattle.std.proofs.Common.{◌≡◌, ℕ, Bool, true, false, if◌then◌else◌, List, [], ◌∷◌, map, Option, Some, None, refl, sym, ap, ◌∙◌, slice_get}
 use Rattle.std.specs.List.{IsDistinct, AllByRecursion}
 use Rattle.std.specs.Option.{option_map}
 use Rattle.std.specs.Map.{lookup, set_value}
@@ -7,8 +7,8 @@ use Rattle.std.proofs.lemmas.Option.{slice_get-map}
 use Rattle.indexmap.specs.IndexMap.{insert_entry}
 use Rattle.key_map.specs.declared.key.Key as declared
 use Rattle.key_map.specs.declared.map.Row.{Row}
-use Rattle.key_map.specs.Keys.{same, key_of}
-use Rattle.key_map.specs.Entries.{IsEntry, entry_of, keys_in, find_entry, put_entry}
+use Rattle.key_map.specs.Keys.{Key, same, key_of}
+use Rattle.key_map.specs.Entries.{Entry, IsEntry, entry_of, keys_in, find_entry, put_entry}
 
 abbrev pub test : declared.Key → declared.Key → Bool
 test k other = same (key_of k) (key_of other)
@@ -60,3 +60,10 @@ pub distinct_keys : {S V : Type 0} (es : List (declared.Key × Row S V)) → IsD
 unfolding IsDistinct
 distinct_keys [] h = tt
 distinct_keys (e ∷ es) h = (unlike_all e.0 es h.0, distinct_keys es h.1)
+
+abbrev key_in : {S V : Type 0} → Entry S V → Key
+key_in e = e.key
+
+pub key_at_place : {S V : Type 0} (es : List (declared.Key × Row S V)) (i : ℕ) (o : Option (declared.Key × Row S V)) → slice_get es i ≡ o
+    → option_map key_in (option_map entry_of o) ≡ slice_get (keys_in (map entry_of es)) i
+key_at_place es i o h = sym (slice_get-map key_in (map entry_of es) i ∙ ap (option_map key_in) (slice_get-map entry_of es i ∙ ap (option_map entry_of) h))

@@ -1,6 +1,6 @@
 ghost use Rattle.std.specs.Prelude.{◌≡◌, [], IfOk, OnOk, OnErr, MatchOption, length, map, slice_get, None, Some};
 ghost use Rattle.std.specs.List.{IsDistinct};
-ghost use Rattle.std.specs.Option.{option_copied};
+ghost use Rattle.std.specs.Option.{option_copied, option_map};
 ghost use Rattle.key_map.specs.Entries.{IsEntry, entries, find_entry, keys_in, put_entry};
 ghost use Rattle.key_map.specs.Keys.{key_of, same};
 
@@ -79,6 +79,16 @@ impl<S: Drop, V: Drop> KeyMap<S, V> {
         }
     }
 
+    /// The key of the entry at a place, from 0. Takes no memory.
+    pub fn key_at(&self, place: usize) -> Option<&Key>
+        ensures key { option_map key_of (option_copied result) ≡ slice_get (keys_in (entries self.now)) place }
+    {
+        match self.rows.get_index(place) {
+            Some((key, _)) => Some(key),
+            None => None,
+        }
+    }
+
     /// The number of entries. Takes no memory.
     pub fn len(&self) -> usize
         ensures count { result ≡ length (entries self.now) }
@@ -86,58 +96,5 @@ impl<S: Drop, V: Drop> KeyMap<S, V> {
         ensures distinct { IsDistinct same (keys_in (entries self.now)) }
     {
         self.rows.len()
-    }
-}
-
-#[cfg(test)]
-mod tests {
-    use super::*;
-    use crate::key::{KeyText, Keys};
-    use std::test::Fail;
-
-    fn text(alloc: Global, points: &[char]) -> Result<Key, AllocError> {
-        Ok(Key::Str(KeyText::from_slice(alloc, points)?))
-    }
-
-    fn pair(alloc: Global, first: Key, second: Key) -> Result<Key, AllocError> {
-        let mut items = Keys::new(alloc);
-        items.push(first)?;
-        items.push(second)?;
-        Ok(Key::Tuple(items))
-    }
-
-    #[test]
-    fn an_equal_key_keeps_its_first_form_and_its_place(rt: HostRuntime) -> Result<(), Fail> {
-        let mut map = KeyMap::new(rt.alloc());
-        map.put(Key::Int(1), "1", 'a')?;
-        map.put(Key::Int(2), "2", 'c')?;
-        map.put(Key::Int(1), "True", 'b')?;
-        assert_eq!(rt; map.len(), 2);
-        assert_eq!(rt; map.at(0), Some((&"1", &'b')));
-        assert_eq!(rt; map.at(1), Some((&"2", &'c')));
-        assert_eq!(rt; map.at(2), None);
-        Ok(())
-    }
-
-    #[test]
-    fn keys_are_found_by_what_they_hold(rt: HostRuntime) -> Result<(), Fail> {
-        let alloc = rt.alloc();
-        let mut map = KeyMap::new(alloc);
-        map.put(Key::Nil, 0, 0)?;
-        map.put(Key::Int(0), 1, 1)?;
-        map.put(text(alloc, &['0'])?, 2, 2)?;
-        map.put(text(alloc, &[])?, 3, 3)?;
-        map.put(Key::Tuple(Keys::new(alloc)), 4, 4)?;
-        map.put(pair(alloc, Key::Int(0), text(alloc, &['0'])?)?, 5, 5)?;
-        map.put(pair(alloc, text(alloc, &['0'])?, Key::Int(0))?, 6, 6)?;
-        assert_eq!(rt; map.len(), 7);
-        assert_eq!(rt; map.find(&Key::Nil), Some(&0));
-        assert_eq!(rt; map.find(&text(alloc, &['0'])?), Some(&2));
-        assert_eq!(rt; map.find(&Key::Tuple(Keys::new(alloc))), Some(&4));
-        let key = pair(alloc, Key::Int(0), text(alloc, &['0'])?)?;
-        assert_eq!(rt; map.find(&key), Some(&5));
-        assert_eq!(rt; map.find(&pair(alloc, Key::Int(0), Key::Int(0))?), None);
-        assert_eq!(rt; map.find(&Key::Int(1)), None);
-        Ok(())
     }
 }

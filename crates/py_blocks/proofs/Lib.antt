@@ -9,3 +9,4 @@ pub mod Standing
 pub mod Whole
 pub mod Frames
 pub mod Reading
+pub mod SomeModule

@@ -10,3 +10,4 @@ pub mod ImportRuns
 pub mod Statements
 pub mod Signatures
 pub mod Heads
+pub mod EveryLine

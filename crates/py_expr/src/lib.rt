@@ -13,6 +13,7 @@ mod head;
 mod head_definitions;
 mod head_made;
 mod imports;
+pub mod laws;
 pub mod line;
 mod made;
 mod parameters;

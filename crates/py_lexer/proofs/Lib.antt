@@ -15,3 +15,4 @@ pub mod Steps
 pub mod WholeText
 pub mod Covered
 pub mod Fitting
+pub mod SomeReading

@@ -7,6 +7,7 @@ pub mod Strings
 pub mod Tokens
 pub mod Pieces
 pub mod Lexing
+pub mod EveryText
 pub mod Literals
 pub mod Views
 pub mod Reading

@@ -5,6 +5,7 @@
 pub mod character;
 pub mod escape;
 mod integer_literal;
+pub mod laws;
 pub mod lex;
 mod lexeme;
 pub mod lines;

@@ -1,5 +1,6 @@
 -- The exception classes: their names, and which is directly below which.
-use Rattle.std.specs.Prelude.{◌≡◌, ℕ, List, codes, Option, Some, None}
+use Rattle.std.specs.Prelude.{◌≡◌, ◌↔◌, ℕ, List, [], ◌∷◌, codes, Option, Some, None}
+use Rattle.std.specs.List.{Contains}
 use Rattle.py_values.specs.declared.exception.ExcKind.{ExcKind}
 use Rattle.py_values.specs.declared.exception.ExcKind.TheVariants.{Exception, ArithmeticError, ZeroDivisionError, OverflowError, LookupError, IndexError, KeyError, NameError, UnboundLocalError, AttributeError, TypeError, ValueError, RuntimeError, RecursionError, FrozenError}
 
@@ -41,3 +42,25 @@ base_of FrozenError = Some Exception
 pub data IsBelow : ExcKind → ExcKind → Type 0 where
   itself : {k : ExcKind} → IsBelow k k
   by_base : {k b a : ExcKind} → base_of k ≡ Some b → IsBelow b a → IsBelow k a
+
+-- the class itself, the one that it is directly below, and so on
+abbrev pub exceptions_above : ExcKind → List ExcKind
+exceptions_above Exception = Exception ∷ []
+exceptions_above ArithmeticError = ArithmeticError ∷ Exception ∷ []
+exceptions_above ZeroDivisionError = ZeroDivisionError ∷ ArithmeticError ∷ Exception ∷ []
+exceptions_above OverflowError = OverflowError ∷ ArithmeticError ∷ Exception ∷ []
+exceptions_above LookupError = LookupError ∷ Exception ∷ []
+exceptions_above IndexError = IndexError ∷ LookupError ∷ Exception ∷ []
+exceptions_above KeyError = KeyError ∷ LookupError ∷ Exception ∷ []
+exceptions_above NameError = NameError ∷ Exception ∷ []
+exceptions_above UnboundLocalError = UnboundLocalError ∷ NameError ∷ Exception ∷ []
+exceptions_above AttributeError = AttributeError ∷ Exception ∷ []
+exceptions_above TypeError = TypeError ∷ Exception ∷ []
+exceptions_above ValueError = ValueError ∷ Exception ∷ []
+exceptions_above RuntimeError = RuntimeError ∷ Exception ∷ []
+exceptions_above RecursionError = RecursionError ∷ RuntimeError ∷ Exception ∷ []
+exceptions_above FrozenError = FrozenError ∷ Exception ∷ []
+
+-- these are the classes that it is below
+abbrev pub AreAbove : ExcKind → List ExcKind → Type 0
+AreAbove k above = (a : ExcKind) → IsBelow k a ↔ Contains above a

@@ -1,2 +1,3 @@
 pub mod Exceptions
+pub mod Builtins
 pub mod Kinds

@@ -1,5 +1,5 @@
 ghost use Rattle.std.specs.Prelude.{◌≡◌, IsTrue, ◌↔◌};
-ghost use Rattle.py_values.specs.Exceptions.{name_of, base_of, IsBelow};
+ghost use Rattle.py_values.specs.Exceptions.{AreAbove, IsBelow, base_of, exceptions_above, name_of};
 
 /// The exception classes (Python library reference: built-in exceptions). `FrozenError` is this project's own.
 #[derive(Clone, Copy, Debug, PartialEq, Eq)]
@@ -79,19 +79,52 @@ impl ExcKind {
             None => false,
         }
     }
-}
 
-#[cfg(test)]
-mod tests {
-    use super::*;
-    use std::test::Fail;
-
-    #[test]
-    fn index_errors_are_lookup_errors(rt: HostRuntime) -> Result<(), Fail> {
-        assert_eq!(rt; ExcKind::IndexError.base(), Some(ExcKind::LookupError));
-        assert_eq!(rt; ExcKind::LookupError.name(), "LookupError");
-        assert!(rt; ExcKind::KeyError.is_below(ExcKind::Exception));
-        assert!(rt; !ExcKind::KeyError.is_below(ExcKind::ArithmeticError));
-        Ok(())
+    /// The class itself, the one that it is directly below, and so on up to `Exception`.
+    pub fn above(self) -> &'static [ExcKind]
+        ensures classes { result.now ≡ exceptions_above self }
+    {
+        match self {
+            ExcKind::Exception => &[ExcKind::Exception],
+            ExcKind::ArithmeticError => &[ExcKind::ArithmeticError, ExcKind::Exception],
+            ExcKind::ZeroDivisionError => &[
+                ExcKind::ZeroDivisionError,
+                ExcKind::ArithmeticError,
+                ExcKind::Exception,
+            ],
+            ExcKind::OverflowError => &[
+                ExcKind::OverflowError,
+                ExcKind::ArithmeticError,
+                ExcKind::Exception,
+            ],
+            ExcKind::LookupError => &[ExcKind::LookupError, ExcKind::Exception],
+            ExcKind::IndexError => &[
+                ExcKind::IndexError,
+                ExcKind::LookupError,
+                ExcKind::Exception,
+            ],
+            ExcKind::KeyError => &[ExcKind::KeyError, ExcKind::LookupError, ExcKind::Exception],
+            ExcKind::NameError => &[ExcKind::NameError, ExcKind::Exception],
+            ExcKind::UnboundLocalError => &[
+                ExcKind::UnboundLocalError,
+                ExcKind::NameError,
+                ExcKind::Exception,
+            ],
+            ExcKind::AttributeError => &[ExcKind::AttributeError, ExcKind::Exception],
+            ExcKind::TypeError => &[ExcKind::TypeError, ExcKind::Exception],
+            ExcKind::ValueError => &[ExcKind::ValueError, ExcKind::Exception],
+            ExcKind::RuntimeError => &[ExcKind::RuntimeError, ExcKind::Exception],
+            ExcKind::RecursionError => &[
+                ExcKind::RecursionError,
+                ExcKind::RuntimeError,
+                ExcKind::Exception,
+            ],
+            ExcKind::FrozenError => &[ExcKind::FrozenError, ExcKind::Exception],
+        }
     }
 }
+
+/// The classes above a class are those that it is below.
+pub fn exceptions_are_above()
+    ensures { (k : ExcKind) → AreAbove k (exceptions_above k) }
+{}

@@ -68,22 +68,3 @@ pub fn kind(value: Value) -> ValueKind
         Value::Host { .. } => ValueKind::Host,
     }
 }
-
-#[cfg(test)]
-mod tests {
-    use super::*;
-    use crate::value::{Home, Ref};
-    use std::test::Fail;
-
-    #[test]
-    fn objects_are_told_apart_by_their_places_alone(rt: HostRuntime) -> Result<(), Fail> {
-        let place = Ref {
-            home: Home::Module(3),
-            place: 7,
-        };
-        assert_eq!(rt; kind(Value::Obj(place)), ValueKind::Object);
-        assert_eq!(rt; kind(Value::Str(place)), ValueKind::Str);
-        assert_eq!(rt; kind(Value::Bool(true)), ValueKind::Bool);
-        Ok(())
-    }
-}

@@ -8,7 +8,7 @@ returns-clause-ok c =
     on_ok_weaker c.apply.result
     (λ made. record {
       thing = changed_at c.args.self.now.objects.items c.args.place c.index_mut.result.now c.apply.new.self c.args.change c.index_mut.ensures.value made;
-      others = record { home = refl; globals = refl; defaults = λ f n. refl };
+      others = record { home = refl; globals = refl; defaults = refl };
     }) c.apply.ensures.ok
 
 pub returns-clause-err : goal.returns-clause-err
@@ -16,5 +16,5 @@ returns-clause-err c =
     on_err_weaker c.apply.result
     (λ same. record {
       things = same_at c.args.self.now.objects.items c.args.place c.index_mut.result.now c.apply.new.self c.index_mut.ensures.value same;
-      others = record { home = refl; globals = refl; defaults = λ f n. refl };
+      others = record { home = refl; globals = refl; defaults = refl };
     }) c.apply.ensures.err
