@@ -5,7 +5,7 @@ ghost use Rattle.registry_core.specs.declared.sources.Sources.{Sources};
 
 use crate::imports::Imports;
 use crate::sources::Sources;
-use std::alloc::AllocError;
+use std::alloc::{AllocError, Global};
 
 /// A way to load modules: what decides one, given the verdicts of those that it needs, and which verdict is right.
 pub trait Loads {
@@ -30,9 +30,10 @@ pub trait Loads {
     /// Whether data is that of a refused module.
     ghost is_refused: { Self.Data → Bool };
 
-    /// A right verdict of a module, given right verdicts of all that it needs.
+    /// A right verdict of a module, given right verdicts of all that it needs, in any order.
     fn load(
         &self,
+        alloc: Global,
         all: &Sources<Self::Source>,
         module: u32,
         imports: &Imports<Self::Verdict>,
