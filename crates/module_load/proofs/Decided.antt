@@ -15,7 +15,7 @@ use Rattle.symbols.specs.Words.{among}
 use Rattle.symbols.specs.declared.outer.Outer.{Outer}
 use Rattle.symbols.specs.declared.outer.OuterBinding.{OuterBinding}
 use Rattle.symbols.specs.declared.resolved.Resolved.{Resolved}
-use Rattle.module_load.specs.declared.verdict.ModuleGlobal.{ModuleGlobal}
+use Rattle.module_load.specs.declared.globals.ModuleGlobal.{ModuleGlobal}
 use Rattle.module_load.specs.declared.verdict.Verdict.TheVariants.{Published, Refused}
 use Rattle.module_load.specs.Bodies.{spent, unbuilt}
 use Rattle.module_load.specs.Decisions.{Decisions}

@@ -8,7 +8,7 @@ use Rattle.py_tree.specs.declared.code.Code.TheVariants.{NotBuilt, NoSuchModule,
 use Rattle.py_tree.specs.declared.fault.Fault.{Fault}
 use Rattle.py_tree.specs.declared.statement.Import.{Import}
 use Rattle.symbols.specs.declared.outer.OuterKind.TheVariants as holds
-use Rattle.module_load.specs.declared.verdict.ModuleGlobal.{ModuleGlobal}
+use Rattle.module_load.specs.declared.globals.ModuleGlobal.{ModuleGlobal}
 use Rattle.module_load.specs.declared.verdict.Verdict.{Verdict}
 use Rattle.module_load.specs.declared.verdict.Verdict.TheVariants.{Published, Refused, Plain}
 use Rattle.module_load.specs.Bodies.{unbuilt}

@@ -11,7 +11,7 @@ use Rattle.symbols.specs.Words.{among}
 use Rattle.symbols.specs.declared.outer.OuterBinding.{OuterBinding}
 use Rattle.module_load.specs.Views.{with_module}
 use Rattle.module_load.specs.RightDecisions.{held, is_module, module_names}
-use Rattle.module_load.specs.declared.verdict.ModuleGlobal.{ModuleGlobal}
+use Rattle.module_load.specs.declared.globals.ModuleGlobal.{ModuleGlobal}
 
 or_false : (b : Bool) → (b || false) ≡ b
 or_false true = refl

@@ -10,7 +10,7 @@ use Rattle.py_blocks.specs.Rows.{rows_of}
 use Rattle.symbols.specs.Names.{with_name}
 use Rattle.symbols.specs.declared.outer.OuterBinding.{OuterBinding}
 use Rattle.module_load.specs.declared.source.SourceState.{SourceState}
-use Rattle.module_load.specs.declared.verdict.ModuleGlobal.{ModuleGlobal}
+use Rattle.module_load.specs.declared.globals.ModuleGlobal.{ModuleGlobal}
 use Rattle.module_load.specs.declared.verdict.Verdict.TheVariants.{Published, Refused}
 use Rattle.module_load.specs.Decisions.{Decisions}
 use Rattle.module_load.specs.RightDecisions.{IsRight, is_module}
