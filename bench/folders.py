@@ -33,7 +33,8 @@ def measure(folder, runs=5):
 
 subprocess.run([os.path.join(TOP, "run")], stdout=subprocess.DEVNULL, check=False)
 seconds, least, wrong = {}, 0, 0
-for modules, lines in [(0, LINES), (100, LINES), (300, LINES), (1000, LINES), (1, 10_000), (1, 40_000)]:
+# The last has 1,000,000 lines.
+for modules, lines in [(0, LINES), (100, LINES), (300, LINES), (1000, LINES), (1, 10_000), (1, 40_000), (25, 40_000)]:
     with tempfile.TemporaryDirectory() as folder:
         size = make(folder, modules, lines)
         took, peak = measure(folder)

@@ -39,5 +39,8 @@ assign_is t e = ap kind_of (sym (variant.rolls-Assign t e)) ∙ fold-roll-StmtKi
 pub annotate_is : (t : Target) (e : Expr) (v : Option Expr) → kind_of (code.Annotate t e v) ≡ x.Annotate (target_of t) (expression_of e) (maybe_of v)
 annotate_is t e v = ap kind_of (sym (variant.rolls-Annotate t e v)) ∙ fold-roll-StmtKind Kind x.Branch x.ClassDef x.Clause x.Function Statement kind_step branch_step class_step clause_step function_step statement_step (S.Annotate t e v)
 
+pub annotate_made : (t : Target) (e made : Expr) (v made_value : Option Expr) → made ≡ e → made_value ≡ v → kind_of (code.Annotate t made made_value) ≡ x.Annotate (target_of t) (expression_of e) (maybe_of v)
+annotate_made t e made v made_value is value_is = rw (is, value_is) (annotate_is t e v)
+
 pub augment_is : (t : Target) (op : BinaryOp) (e : Expr) → kind_of (code.Augment t op e) ≡ x.Augment (target_of t) op (expression_of e)
 augment_is t op e = ap kind_of (sym (variant.rolls-Augment t op e)) ∙ fold-roll-StmtKind Kind x.Branch x.ClassDef x.Clause x.Function Statement kind_step branch_step class_step clause_step function_step statement_step (S.Augment t op e)

@@ -1,5 +1,5 @@
 -- Lines: a head, a head with a statement behind it, or a statement.
-use Rattle.std.proofs.Common.{◌≡◌, max, [], Option, Some, None, Result, Ok, Err, IfOk, sym, ap, subst}
+use Rattle.std.proofs.Common.{◌≡◌, max, [], Option, Some, None, Result, Ok, Err, IfOk, option_map, refl, sym, ap, subst}
 use Rattle.std.specs.declared.alloc.AllocError.{AllocError}
 use Rattle.py_tree.specs.Syntax.{Kind}
 use Rattle.py_tree.specs.Joined.{kind_of}
@@ -17,7 +17,7 @@ use Rattle.py_expr.specs.Lines as l
 use Rattle.py_expr.specs.Lines.{HeadAt, Simple, Line}
 use Rattle.py_expr.specs.LineEnds.{Anything}
 use Rattle.py_expr.specs.Readings.{IsBuilt, IsFound, built_on, both_built}
-use Rattle.py_expr.specs.Statements.{IsWhole, FormAt}
+use Rattle.py_expr.specs.Statements.{IsWhole, WholeAt, FormAt}
 use Rattle.py_phrases.proofs.Builds.{one_front}
 use Rattle.py_expr.proofs.OneForm.{OneFront, no_head}
 use Rattle.py_expr.proofs.Wholes.{whole_under, both_are}
@@ -53,7 +53,7 @@ header_there s r h b f e is =
       is_built = header_built f.thing h f.is_built;
     })
 
-pub header_with_there : (s r : Tokens) (h : Built tree_head.Head) (k : Built StmtKind) (b : Built tree.Form) → IsHead s h r → IsWhole Simple kind_of kind_nesting r k → b ≡ built_on (λ p. made.Header p.0 (Some p.1)) (both_built h k)
+header_with_there : (s r : Tokens) (h : Built tree_head.Head) (k : Built StmtKind) (b : Built tree.Form) → IsHead s h r → IsWhole Simple kind_of kind_nesting r k → b ≡ built_on (λ p. made.Header p.0 (Some p.1)) (both_built h k)
     → IsWhole Line form_of form_nesting s b
 header_with_there s r h k b f g is =
     whole_under is (record {
@@ -62,10 +62,15 @@ header_with_there s r h k b f g is =
       is_built = with_built f.thing g.thing (both_built h k) (both_are head_of head_nesting kind_of kind_nesting f.thing g.thing h k f.is_built g.is_built);
     })
 
-pub no_line_behind : (s r : Tokens) (h : Built tree_head.Head) → IsHead s h r → (r ≡ [] → ⊥) → ((k : Kind) → Simple r k → ⊥) → (y : Form) → Line s y → ⊥
+no_line_behind : (s r : Tokens) (h : Built tree_head.Head) → IsHead s h r → (r ≡ [] → ⊥) → ((k : Kind) → Simple r k → ⊥) → (y : Form) → Line s y → ⊥
 no_line_behind s r h f more none _ (l.a_head {h = a} u) = more (f.only [] a u tt).rest
 no_line_behind s r h f more none _ (l.a_head_with {m = m} {h = a} {k = k} u i) = none k (subst (λ z. Simple z k) (sym (f.only m a u tt).rest) i)
 no_line_behind s r h f more none _ (l.a_statement {k = k} i) = no_head one s r f.thing k f.stands i
+
+pub header_before_there : (r : Tokens) (h : Built tree_head.Head) (k : Option (Built StmtKind)) (o : Option (Built tree.Form)) → (r ≡ [] → ⊥) → WholeAt Simple kind_of kind_nesting r k
+    → o ≡ option_map (λ z. built_on (λ p. made.Header p.0 (Some p.1)) (both_built h z)) k → (s : Tokens) → IsHead s h r → FormAt s o
+header_before_there r h (Some k) o more g is = λ s f. subst (FormAt s) (sym is) (header_with_there s r h k (built_on (λ p. made.Header p.0 (Some p.1)) (both_built h k)) f g refl)
+header_before_there r h None o more none is = λ s f. subst (FormAt s) (sym is) (no_line_behind s r h f more none)
 
 pub simple_there : (s : Tokens) (k : Built StmtKind) (b : Built tree.Form) → IsWhole Simple kind_of kind_nesting s k → b ≡ built_on made.Simple k → IsWhole Line form_of form_nesting s b
 simple_there s k b f is = whole_under is (record { thing = form.Simple f.thing; stands = l.a_statement f.stands; is_built = simple_built f.thing k f.is_built })

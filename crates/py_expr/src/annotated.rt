@@ -13,6 +13,7 @@ use py_phrases::phrase::Built;
 use py_tree::expression::{Expr, Target};
 use py_tree::statement::StmtKind;
 use py_tree::text::Text;
+use sqlite_items::Boxed;
 use std::alloc::Global;
 
 /// A target with its annotation and value.
@@ -33,7 +34,7 @@ fn of_name(alloc: Global, name: &Text, tokens: &[Token]) -> Whole<Annotation>
 fn of_attribute(alloc: Global, object: &Text, name: &Text, tokens: &[Token]) -> Whole<Annotation>
     ensures { IfOk result (λ found. AnnotatesAt (x.ToAttr (x.Name object.now) name.now) tokens.now found) }
 {
-    let object = named(alloc, object)?;
+    let object = Boxed::new(alloc, named(alloc, object)?)?;
     let member = name.copy(alloc)?;
     match annotation(alloc, tokens)? {
         Some(annotation) => {
@@ -49,7 +50,10 @@ pub(crate) fn annotated_name(alloc: Global, name: &Text, tokens: &[Token]) -> Wh
     ensures { IfOk result (λ found. StatementAt (token.Name name.now ∷ t.colon ∷ tokens.now) found) }
 {
     match of_name(alloc, name, tokens)? {
-        Some(parts) => Ok(Some(annotating(parts))),
+        Some(parts) => {
+            let kind = annotating(alloc, parts)?;
+            Ok(Some(kind))
+        }
         None => Ok(None),
     }
 }
@@ -64,7 +68,10 @@ pub(crate) fn annotated_attribute(
     ensures { IfOk result (λ found. StatementAt (token.Name object.now ∷ t.dot ∷ token.Name name.now ∷ t.colon ∷ tokens.now) found) }
 {
     match of_attribute(alloc, object, name, tokens)? {
-        Some(parts) => Ok(Some(annotating(parts))),
+        Some(parts) => {
+            let kind = annotating(alloc, parts)?;
+            Ok(Some(kind))
+        }
         None => Ok(None),
     }
 }

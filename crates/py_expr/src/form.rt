@@ -1,11 +1,12 @@
 use py_tree::expression::{Expr, Params, Target};
 use py_tree::statement::StmtKind;
 use py_tree::text::Text;
+use sqlite_items::Boxed;
 
 /// What a logical line spells: the head of a block, with the simple statement that follows it on its line, or a simple statement.
 #[derive(Drop)]
 pub enum Form {
-    Header(Head, Option<StmtKind>),
+    Header(Boxed<Head>, Option<Boxed<StmtKind>>),
     Simple(StmtKind),
 }
 
@@ -16,7 +17,7 @@ pub enum Head {
     Elif(Expr),
     Else,
     While(Expr),
-    For(Target, Expr),
+    For(Target, Boxed<Expr>),
     Try,
     Except {
         matches: Option<Expr>,

@@ -5,7 +5,8 @@ ghost use Rattle.py_expr.specs.Readings.{IsNext, built_on, both_built};
 use py_lexer::token::Token;
 use py_phrases::phrase::Built;
 use py_tree::expression::Expr;
-use std::alloc::AllocError;
+use sqlite_items::Boxed;
+use std::alloc::{AllocError, Global};
 
 /// What a reading at the front of tokens answers.
 pub(crate) type Reading<'a, T> = Result<Option<Found<'a, T>>, AllocError>;
@@ -24,6 +25,16 @@ fn optional<T>(built: Built<T>) -> Built<Option<T>>
     match built {
         Built::Shallow(tree) => Built::Shallow(Some(tree)),
         Built::TooDeep => Built::TooDeep,
+    }
+}
+
+/// What was built, in a box.
+pub(crate) fn boxed<T: Drop>(alloc: Global, built: Built<T>) -> Result<Built<Boxed<T>>, AllocError>
+    ensures { IfOk result (λ made. made ≡ built) }
+{
+    match built {
+        Built::Shallow(tree) => Ok(Built::Shallow(Boxed::new(alloc, tree)?)),
+        Built::TooDeep => Ok(Built::TooDeep),
     }
 }
 

@@ -90,10 +90,11 @@ fn for_head<'a>(alloc: Global, tokens: &'a [Token]) -> Reading<'a, Head>
     };
     let items = list_before_colon(alloc, target.rest);
     match with_next(target.built, items)? {
-        Some(parts) => Ok(Some(Found {
-            built: looping(parts.built),
-            rest: parts.rest,
-        })),
+        Some(parts) => {
+            let Found { built, rest } = parts;
+            let built = looping(alloc, built)?;
+            Ok(Some(Found { built, rest }))
+        }
         None => Ok(None),
     }
 }

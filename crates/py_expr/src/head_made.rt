@@ -10,6 +10,7 @@ use crate::head::Tested;
 use py_phrases::phrase::Built;
 use py_tree::expression::{Expr, Params, Target};
 use py_tree::text::Text;
+use sqlite_items::Boxed;
 use std::alloc::{AllocError, Global};
 
 /// `if test:`, `elif test:` or `while test:`
@@ -33,12 +34,18 @@ fn tested(head: Tested, test: Expr) -> Head
 }
 
 /// `for target in items:`
-pub(crate) fn looping(parts: Built<(Target, Expr)>) -> Built<Head>
-    ensures { MakesFor parts result }
+pub(crate) fn looping(
+    alloc: Global,
+    parts: Built<(Target, Expr)>,
+) -> Result<Built<Head>, AllocError>
+    ensures { IfOk result (MakesFor parts) }
 {
     match parts {
-        Built::Shallow((target, items)) => Built::Shallow(Head::For(target, items)),
-        Built::TooDeep => Built::TooDeep,
+        Built::Shallow((target, items)) => {
+            let items = Boxed::new(alloc, items)?;
+            Ok(Built::Shallow(Head::For(target, items)))
+        }
+        Built::TooDeep => Ok(Built::TooDeep),
     }
 }
 

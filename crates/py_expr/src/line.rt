@@ -1,4 +1,4 @@
-ghost use Rattle.std.specs.Prelude.{◌≡◌, IfOk, Some, None};
+ghost use Rattle.std.specs.Prelude.{◌≡◌, IfOk, Some, None, option_map};
 ghost use Rattle.py_tree.specs.declared.fault.Stop.TheVariants as stop;
 ghost use Rattle.py_expr.specs.Depth.{head_nesting};
 ghost use Rattle.py_expr.specs.Forms.{head_of};
@@ -8,11 +8,11 @@ ghost use Rattle.py_expr.specs.Lines.{HeadAt};
 ghost use Rattle.py_expr.specs.LineAnswers.{AtMostOneForm, IsAnswered, IsSo};
 ghost use Rattle.py_expr.specs.Literals.{FormsFit};
 ghost use Rattle.py_expr.specs.Readings.{IsFound, both_built, built_on};
-ghost use Rattle.py_expr.specs.Statements.{FormAt, HasNoHead};
+ghost use Rattle.py_expr.specs.Statements.{FormAt, HasNoHead, StatementAt};
 ghost use Rattle.py_expr.specs.declared.form.Form.TheVariants as form;
 
 use crate::form::{Form, Head};
-use crate::found::{Found, both};
+use crate::found::{Found, both, boxed};
 use crate::head::head;
 use crate::simple::statement;
 use crate::whole::Whole;
@@ -21,6 +21,7 @@ use py_phrases::phrase::Built;
 use py_tree::code::Code;
 use py_tree::fault::{Fault, Stop};
 use py_tree::statement::StmtKind;
+use sqlite_items::Boxed;
 use std::alloc::Global;
 
 /// The one form that the tokens of the line spell.
@@ -81,11 +82,27 @@ fn headed(alloc: Global, head: Found<'_, Head>) -> Whole<Form>
     ensures { IfOk result (λ found. (s : Tokens) → IsFound HeadAt Anything head_of head_nesting s head.entry.built head.entry.rest.now → FormAt s found) }
 {
     let Found { built, rest } = head;
-    if rest.is_empty() {
-        return Ok(Some(header(built)));
+    let head = boxed(alloc, built)?;
+    behind_head(alloc, head, rest)
+}
+
+/// `[simple]`, behind the head.
+fn behind_head(alloc: Global, head: Built<Boxed<Head>>, tokens: &[Token]) -> Whole<Form>
+    ensures { IfOk result (λ found. (s : Tokens) → IsFound HeadAt Anything head_of head_nesting s head tokens.now → FormAt s found) }
+{
+    if tokens.is_empty() {
+        return Ok(Some(header(head)));
     }
-    match statement(alloc, rest)? {
-        Some(kind) => Ok(Some(header_with(built, kind))),
+    let kind = boxed_statement(alloc, tokens)?;
+    Ok(header_before(head, kind))
+}
+
+/// `simple`, in a box.
+fn boxed_statement(alloc: Global, tokens: &[Token]) -> Whole<Boxed<StmtKind>>
+    ensures { IfOk result (λ found. StatementAt tokens.now found) }
+{
+    match statement(alloc, tokens)? {
+        Some(kind) => Ok(Some(boxed(alloc, kind)?)),
         None => Ok(None),
     }
 }
@@ -101,7 +118,7 @@ fn unheaded(alloc: Global, tokens: &[Token]) -> Whole<Form>
     }
 }
 
-fn header(head: Built<Head>) -> Built<Form>
+fn header(head: Built<Boxed<Head>>) -> Built<Form>
     ensures { result ≡ built_on (λ h. form.Header h None) head }
 {
     match head {
@@ -110,10 +127,23 @@ fn header(head: Built<Head>) -> Built<Form>
     }
 }
 
-fn header_with(head: Built<Head>, kind: Built<StmtKind>) -> Built<Form>
-    ensures { result ≡ built_on (λ p. form.Header p.0 (Some p.1)) (both_built head kind) }
+/// The head with the statement behind it, if one stands there.
+fn header_before(
+    head: Built<Boxed<Head>>,
+    kind: Option<Built<Boxed<StmtKind>>>,
+) -> Option<Built<Form>>
+    ensures { result ≡ option_map (λ k. built_on (λ p. form.Header p.0 (Some p.1)) (both_built head k)) kind }
 {
-    match both(head, kind) {
+    match kind {
+        Some(kind) => Some(header_of(both(head, kind))),
+        None => None,
+    }
+}
+
+fn header_of(parts: Built<(Boxed<Head>, Boxed<StmtKind>)>) -> Built<Form>
+    ensures { result ≡ built_on (λ p. form.Header p.0 (Some p.1)) parts }
+{
+    match parts {
         Built::Shallow((head, kind)) => Built::Shallow(Form::Header(head, Some(kind))),
         Built::TooDeep => Built::TooDeep,
     }

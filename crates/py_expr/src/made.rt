@@ -1,4 +1,4 @@
-ghost use Rattle.std.specs.Prelude.{◌≡◌, Some};
+ghost use Rattle.std.specs.Prelude.{◌≡◌, IfOk, Some};
 ghost use Rattle.py_tree.specs.Joined.{kind_of, target_of};
 ghost use Rattle.py_tree.specs.Syntax as x;
 ghost use Rattle.py_expr.specs.Statements.{Annotates, annotation_of, Makes, MakesOfBoth};
@@ -7,6 +7,8 @@ use py_phrases::phrase::Built;
 use py_tree::expression::{Expr, Target};
 use py_tree::operator::BinaryOp;
 use py_tree::statement::StmtKind;
+use sqlite_items::Boxed;
+use std::alloc::{AllocError, Global};
 
 /// `return`
 pub(crate) fn returning(value: Built<Expr>) -> Built<StmtKind>
@@ -58,19 +60,41 @@ pub(crate) fn augmenting(parts: Built<(Target, Expr)>, op: BinaryOp) -> Built<St
     }
 }
 
-/// `target: kind = value`
-fn annotation(target: Target, parts: (Expr, Option<Expr>)) -> StmtKind
-    ensures { kind_of result ≡ x.Annotate (target_of target) (annotation_of parts).0 (annotation_of parts).1 }
+/// The expression in a box, where there is one.
+fn boxed(alloc: Global, value: Option<Expr>) -> Result<Option<Boxed<Expr>>, AllocError>
+    ensures { IfOk result (λ made. made ≡ value) }
 {
-    StmtKind::Annotate(target, parts.0, parts.1)
+    match value {
+        Some(value) => Ok(Some(Boxed::new(alloc, value)?)),
+        None => Ok(None),
+    }
 }
 
 /// `target: kind = value`
-pub(crate) fn annotating(parts: Built<(Target, (Expr, Option<Expr>))>) -> Built<StmtKind>
-    ensures { Annotates parts result }
+fn annotation(
+    alloc: Global,
+    target: Target,
+    parts: (Expr, Option<Expr>),
+) -> Result<StmtKind, AllocError>
+    ensures { IfOk result (λ kind. kind_of kind ≡ x.Annotate (target_of target) (annotation_of parts).0 (annotation_of parts).1) }
+{
+    let kind = Boxed::new(alloc, parts.0)?;
+    let value = boxed(alloc, parts.1)?;
+    Ok(StmtKind::Annotate(target, kind, value))
+}
+
+/// `target: kind = value`
+pub(crate) fn annotating(
+    alloc: Global,
+    parts: Built<(Target, (Expr, Option<Expr>))>,
+) -> Result<Built<StmtKind>, AllocError>
+    ensures { IfOk result (Annotates parts) }
 {
     match parts {
-        Built::Shallow((target, parts)) => Built::Shallow(annotation(target, parts)),
-        Built::TooDeep => Built::TooDeep,
+        Built::Shallow((target, parts)) => {
+            let kind = annotation(alloc, target, parts)?;
+            Ok(Built::Shallow(kind))
+        }
+        Built::TooDeep => Ok(Built::TooDeep),
     }
 }

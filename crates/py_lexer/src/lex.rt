@@ -184,6 +184,3 @@ fn push_line(lines: &mut LogicalLines, line: LogicalLine) -> Result<(), AllocErr
     }
     lines.push(line)
 }
-
-#[cfg(test)]
-mod tests;

@@ -48,24 +48,3 @@ pub(crate) fn first_place(bytes: &[u8], byte: u8) -> Option<usize>
 {
     bytes.iter().position(|other| *other == byte)
 }
-
-#[cfg(test)]
-mod tests {
-    use super::*;
-
-    #[test]
-    fn ends_each_line_at_its_line_feed(rt: HostRuntime) {
-        let mut lines = Lines::new(b"a\r\n\nb");
-        assert_eq!(rt; lines.next(), Some(b"a\r".as_slice()));
-        assert_eq!(rt; lines.next(), Some(b"".as_slice()));
-        assert_eq!(rt; lines.next(), Some(b"b".as_slice()));
-        assert_eq!(rt; lines.next(), None);
-    }
-
-    #[test]
-    fn has_no_line_behind_the_last_line_feed(rt: HostRuntime) {
-        for (text, count) in [("", 0), ("\n", 1), ("a", 1), ("a\n", 1), ("a\n\n", 2)] {
-            assert_eq!(rt; Lines::new(text.as_bytes()).count(), count, "in {text}");
-        }
-    }
-}

@@ -108,35 +108,3 @@ fn are_spaces(bytes: &[u8]) -> bool
 {
     bytes.iter().all(|byte| *byte == b' ')
 }
-
-#[cfg(test)]
-mod tests {
-    use super::*;
-
-    #[test]
-    fn finds_the_first_marker_line(rt: HostRuntime) {
-        let cases = [
-            ("import __strict__\n", Some(1)),
-            ("import __static__", Some(1)),
-            ("import __strict__ # why\n", Some(1)),
-            ("import __strict__\r\n", Some(1)),
-            ("import __strict__\r# why\n", Some(1)),
-            ("import   __strict__  \n", Some(1)),
-            ("\u{feff}import __strict__\n", Some(1)),
-            ("x = 1\n\nimport __static__\nimport __strict__\n", Some(3)),
-            ("", None),
-            (" import __strict__\n", None),
-            ("import\t__strict__\n", None),
-            ("import __strict__x\n", None),
-            ("import __strict__\r\r\n", None),
-            ("import __strict__\r \n", None),
-            ("import__strict__\n", None),
-            ("# import __strict__\n", None),
-            ("\n\u{feff}import __strict__\n", None),
-        ];
-        for (text, line) in cases {
-            assert!(rt; text.len() <= 1_048_576);
-            assert_eq!(rt; marker_line(text.as_bytes()), line, "in {text}");
-        }
-    }
-}

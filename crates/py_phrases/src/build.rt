@@ -1,5 +1,5 @@
 ghost use Rattle.std.specs.Prelude.{◌≡◌, ◌++◌, ◌∷◌, reverse, OnOk, IfOk};
-ghost use Rattle.py_tree.specs.Joined.{expression_of, pair_of, keyword_of};
+ghost use Rattle.py_tree.specs.Joined.{expression_of, expressions_of, pair_of, keyword_of, keywords_of};
 ghost use Rattle.py_tree.specs.Syntax as x;
 ghost use Rattle.py_phrases.specs.Emitted as m;
 ghost use Rattle.py_phrases.specs.Stacks.{trees_of, taken, taken_pairs, taken_keywords, pair_top, below_pair, keyword_in, maybe_pair, binary_of, BuildsTop};
@@ -7,7 +7,7 @@ ghost use Rattle.py_phrases.specs.Views.{step_of, steps_of, top, rest};
 
 use crate::machine::Step;
 use lists::Items;
-use py_tree::expression::{Expr, Exprs, Keyword, Keywords, Pair, Pairs};
+use py_tree::expression::{Call, Expr, Exprs, Keyword, Keywords, Pair, Pairs};
 use py_tree::operator::{BinaryOp, CompareOp, Const, UnaryOp};
 use py_tree::text::Text;
 use sqlite_items::Boxed;
@@ -307,6 +307,14 @@ fn take_keywords(
     Ok(Some(Items::from_vec(keywords)))
 }
 
+/// A call from its parts.
+fn called(alloc: Global, callee: Expr, args: Exprs, keys: Keywords) -> Result<Expr, AllocError>
+    ensures { IfOk result (λ tree. expression_of tree ≡ x.Call (expression_of callee) (expressions_of args) (keywords_of keys)) }
+{
+    let call = Call { callee, args, keys };
+    Ok(Expr::Call(Boxed::new(alloc, call)?))
+}
+
 fn make_call(
     alloc: Global,
     trees: &mut Vec<Expr>,
@@ -326,8 +334,7 @@ fn make_call(
     let Some(callee) = trees.pop() else {
         return Ok(());
     };
-    let callee = Boxed::new(alloc, callee)?;
-    put(trees, Expr::Call { callee, args, keys })
+    put(trees, called(alloc, callee, args, keys)?)
 }
 
 fn grow(alloc: Global, trees: &mut Vec<Expr>, step: Step) -> Result<(), AllocError>

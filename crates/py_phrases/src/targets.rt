@@ -9,6 +9,7 @@ use crate::machine::Step;
 use crate::phrase::Built;
 use py_tree::expression::{Target, Texts};
 use py_tree::text::Text;
+use sqlite_items::Boxed;
 use std::alloc::{AllocError, Global};
 
 /// The newest of steps, and those before it.
@@ -96,7 +97,10 @@ fn attribute(alloc: Global, object: &[Step], name: &Text) -> Result<Option<Targe
     ensures { IfOk result (λ target. m.maybe_target target ≡ m.to_attribute name.now (trees (steps_of object.now))) }
 {
     match build(alloc, object)? {
-        Some(object) => Ok(Some(Target::Attr(object, name.copy(alloc)?))),
+        Some(object) => {
+            let object = Boxed::new(alloc, object)?;
+            Ok(Some(Target::Attr(object, name.copy(alloc)?)))
+        }
         None => Ok(None),
     }
 }
@@ -111,7 +115,8 @@ fn index(alloc: Global, steps: &[Step]) -> Result<Option<Target>, AllocError>
     let Some(object) = objects.pop() else {
         return Ok(None);
     };
-    Ok(Some(Target::Index(object, place)))
+    let object = Boxed::new(alloc, object)?;
+    Ok(Some(Target::Index(object, Boxed::new(alloc, place)?)))
 }
 
 fn by_newest(alloc: Global, step: Step, before: &[Step]) -> Result<Option<Target>, AllocError>

@@ -1,5 +1,5 @@
-use Rattle.py_expr.proofs.KindsOf.{annotate_is}
+use Rattle.py_expr.proofs.KindsOf.{annotate_made}
 use Rattle.py_expr.proofs.made.annotation.Goals as goal
 
 pub returns : goal.returns
-returns c = annotate_is c.args.target c.args.parts.0 c.args.parts.1
+returns c = annotate_made c.args.target c.args.parts.0 c.in_ok-kind.kind c.args.parts.1 c.in_ok-value.value c.in_ok-kind.ensures c.in_ok-value.ensures
