@@ -11,6 +11,7 @@ use py_tree::statement::{
     Branch, Branches, ClassDef, Clause, Clauses, Function, Stmt, StmtKind, Stmts,
 };
 use py_tree::text::Text;
+use sqlite_items::Boxed;
 use std::alloc::{AllocError, Global};
 
 /// A block that is still open.
@@ -62,7 +63,7 @@ pub(crate) enum Owner {
     For {
         line: u32,
         target: Target,
-        iterable: Expr,
+        iterable: Boxed<Expr>,
     },
     Try {
         line: u32,
@@ -204,19 +205,19 @@ impl Block {
                 name,
                 params,
                 result,
-            } => self.with(
-                line,
-                StmtKind::Def(Function {
+            } => {
+                let function = Function {
                     name,
                     params,
                     result,
                     body,
-                }),
-            ),
-            Owner::Class { line, name, base } => self.with(
-                line,
-                StmtKind::Class(ClassDef { name, base, body }),
-            ),
+                };
+                self.with(line, StmtKind::Def(Boxed::new(alloc, function)?))
+            }
+            Owner::Class { line, name, base } => {
+                let class = ClassDef { name, base, body };
+                self.with(line, StmtKind::Class(Boxed::new(alloc, class)?))
+            }
         }
     }
 }

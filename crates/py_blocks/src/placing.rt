@@ -1,4 +1,4 @@
-ghost use Rattle.std.specs.Prelude.{◌≡◌, ℕ, IfOk, option_map};
+ghost use Rattle.std.specs.Prelude.{◌≡◌, ℕ, IfOk, Some, option_map};
 ghost use Rattle.py_expr.specs.Forms as form;
 ghost use Rattle.py_expr.specs.Forms.{form_of, head_of, maybe_kind_of};
 ghost use Rattle.py_tree.specs.Joined.{expression_of, kind_of, maybe_of, statements_of};
@@ -11,6 +11,7 @@ use py_expr::form::{Form, Head};
 use py_tree::expression::Expr;
 use py_tree::statement::{Branches, Clause, Stmt, StmtKind, Stmts};
 use py_tree::text::Text;
+use sqlite_items::Boxed;
 use std::alloc::{AllocError, Global};
 
 /// A block behind a row that was placed in it, and the head in that row where its own block is still to come.
@@ -27,7 +28,7 @@ impl Block {
     {
         match form {
             Form::Simple(kind) => self.place_simple(alloc, line, kind),
-            Form::Header(head, kind) => self.place_head(alloc, line, head, kind),
+            Form::Header(head, kind) => self.place_head(alloc, line, head.into_inner(), kind),
         }
     }
 
@@ -36,7 +37,7 @@ impl Block {
         alloc: Global,
         line: u32,
         head: Head,
-        kind: Option<StmtKind>,
+        kind: Option<Boxed<StmtKind>>,
     ) -> Result<Option<Placed>, AllocError>
         ensures { IfOk result (λ found. option_map placed_of found ≡ machine.place (block_of self) line (form.Header (head_of head) (maybe_kind_of kind))) }
     {
@@ -105,7 +106,7 @@ impl Block {
         alloc: Global,
         line: u32,
         head: Head,
-        kind: Option<StmtKind>,
+        kind: Option<Boxed<StmtKind>>,
     ) -> Result<Option<Placed>, AllocError>
         ensures { IfOk result (λ found. option_map placed_of found
             ≡ machine.and_then (λ done. machine.begin (block_of self).indent (block_of self).context done line (form.Header (head_of head) (maybe_kind_of kind))) (machine.settled (block_of self).done (block_of self).last)) }
@@ -130,7 +131,7 @@ impl Block {
         self,
         alloc: Global,
         line: u32,
-        kind: Option<StmtKind>,
+        kind: Option<Boxed<StmtKind>>,
         owner: Option<Owner>,
     ) -> Result<Option<Placed>, AllocError>
         ensures { IfOk result (λ found. option_map placed_of found ≡ machine.and_then (machine.beside_head (block_of self) line (maybe_kind_of kind)) (maybe_owner_of owner)) }
@@ -146,17 +147,30 @@ impl Block {
         self,
         alloc: Global,
         line: u32,
-        kind: Option<StmtKind>,
+        kind: Option<Boxed<StmtKind>>,
         owner: Owner,
     ) -> Result<Option<Placed>, AllocError>
         ensures { IfOk result (λ found. option_map placed_of found ≡ machine.beside_head (block_of self) line (maybe_kind_of kind) (owner_of owner)) }
     {
-        let Some(kind) = kind else {
-            return Ok(Some(Placed {
+        match kind {
+            Some(kind) => self.holding(alloc, line, kind.into_inner(), owner),
+            None => Ok(Some(Placed {
                 block: self,
                 waiting: Some(owner),
-            }));
-        };
+            })),
+        }
+    }
+
+    /// Takes the simple statement on the head's line as the head's block, or none where it can't stand there.
+    fn holding(
+        self,
+        alloc: Global,
+        line: u32,
+        kind: StmtKind,
+        owner: Owner,
+    ) -> Result<Option<Placed>, AllocError>
+        ensures { IfOk result (λ found. option_map placed_of found ≡ machine.beside_head (block_of self) line (Some (kind_of kind)) (owner_of owner)) }
+    {
         if !owner.inside(self.context).takes_simple(&kind) {
             return Ok(None);
         }
