@@ -1,5 +1,5 @@
 -- What is decided after each phase.
-use Rattle.std.proofs.Common.{◌≡◌, ℕ, List, [], ◌∷◌, Bool, Option, Some, None, Result, Ok, Err, refl, sym, ap, subst, ◌∙◌}
+use Rattle.std.proofs.Common.{◌≡◌, ℕ, List, [], Option, Some, None, Ok, Err, sym, ap, subst, ◌∙◌}
 use Rattle.py_tree.specs.Syntax.{Text, Statements}
 use Rattle.py_tree.specs.Joined.{module_of, statements_of}
 use Rattle.py_tree.specs.declared.fault.Fault.{Fault}

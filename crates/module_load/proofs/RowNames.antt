@@ -1,5 +1,5 @@
 -- The row of a module has the numbers of the names of its imports.
-use Rattle.std.proofs.Common.{◌≡◌, ℕ, List, [], ◌∷◌, ◌++◌, map, Option, Some, None, refl, sym, ap, ◌∙◌}
+use Rattle.std.proofs.Common.{◌≡◌, ℕ, List, [], ◌∷◌, ◌++◌, map, Option, Some, None, refl, ap, ◌∙◌}
 use Rattle.std.specs.List.{cons_option, filter_map, flat_map, position}
 use Rattle.std.specs.Option.{option_map}
 use Rattle.std.specs.Str.{bytes_eq}
@@ -11,7 +11,7 @@ use Rattle.py_tree.specs.declared.statement.Import.{Import}
 use Rattle.import_graph.specs.declared.imports.ImportRow.{ImportRow}
 use Rattle.import_graph.specs.declared.rows.DirectImport.{DirectImport}
 use Rattle.import_graph.specs.Imports.{import_rows, rows_of}
-use Rattle.module_load.specs.Decisions.{imported_names, kind_names, statement_names}
+use Rattle.module_load.specs.Decisions.{imported_names, statement_names}
 use Rattle.module_load.specs.Folders.{direct_import}
 
 abbrev name_of : ImportRow → Text

@@ -1,7 +1,6 @@
 -- No definition of the language: what the parts of `prepare` and `decide` answer.
 use Rattle.std.specs.Prelude.{ℕ, if◌then◌else◌, List, Result, Ok, Err}
 use Rattle.py_tree.specs.Syntax.{Text, Statements}
-use Rattle.py_tree.specs.declared.fault.Fault.{Fault}
 use Rattle.py_tree.specs.declared.fault.Stop.{Stop}
 use Rattle.py_tree.specs.declared.fault.Stop.TheVariants as stop
 use Rattle.py_lexer.specs.declared.token.LogicalLine.{LogicalLine}

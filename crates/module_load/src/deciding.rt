@@ -10,10 +10,10 @@ ghost use Rattle.module_load.specs.Views.{IsDecided, with_module};
 ghost use Rattle.module_load.specs.declared.verdict.Verdict.{Verdict as Decision};
 
 use crate::body::{spent, unbuilt};
+use crate::globals::{Globals, ModuleGlobal};
 use crate::import_faults::first_import_fault;
 use crate::known::Known;
 use crate::outer::outer;
-use crate::globals::{Globals, ModuleGlobal};
 use crate::verdict::Verdict;
 use lists::Items;
 use py_tree::fault::Stop;

@@ -10,9 +10,9 @@ ghost use Rattle.module_load.specs.FirstOnes as spec;
 ghost use Rattle.module_load.specs.Imports as rule;
 ghost use Rattle.module_load.specs.Preparing.{fault};
 
+use crate::globals::Globals;
 use crate::known::{Known, named_count};
 use crate::top_part::{behind_docstring, is_marker_alone};
-use crate::globals::Globals;
 use crate::verdict::Verdict;
 use py_tree::code::Code;
 use py_tree::fault::Fault;
@@ -108,12 +108,7 @@ fn kind_fault<K: Known>(
 }
 
 /// Of `import NAME as NAME, ..`.
-fn modules_fault<K: Known>(
-    known: &K,
-    place: usize,
-    line: u32,
-    names: &[Import],
-) -> Option<Fault>
+fn modules_fault<K: Known>(known: &K, place: usize, line: u32, names: &[Import]) -> Option<Fault>
     requires { StandAt (K.names known.now) place (map (λ (i : Imported). i.name) names.now) }
     ensures { IsFirstOf (rule.modules_faults (K.decisions known.now) line names.now) result }
 {

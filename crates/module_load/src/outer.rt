@@ -5,9 +5,9 @@ ghost use Rattle.py_tree.specs.Joined.{kind_of, statement_of, statements_of};
 ghost use Rattle.module_load.specs.Decisions.{IsNamedAt, StandAt, imported_names, kind_names, statement_names};
 ghost use Rattle.module_load.specs.Outers as rule;
 
+use crate::globals::ModuleGlobal;
 use crate::import_faults::top_imports;
 use crate::known::{Known, named_count};
-use crate::globals::ModuleGlobal;
 use crate::verdict::Verdict;
 use py_tree::statement::{Import, Stmt, StmtKind};
 use py_tree::text::Text;
@@ -141,9 +141,7 @@ fn member_kind(alloc: Global, name: &Text, verdict: Option<&Verdict>) -> OuterKi
     ensures { result ≡ rule.member_kind name.now (option_copied verdict.entry) }
 {
     match verdict {
-        Some(Verdict::Published(globals)) => {
-            global_kind(alloc, globals.named(name))
-        }
+        Some(Verdict::Published(globals)) => { global_kind(alloc, globals.named(name)) }
         _ => OuterKind::Other,
     }
 }

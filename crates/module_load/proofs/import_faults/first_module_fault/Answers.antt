@@ -1,6 +1,6 @@
 -- One on.
-use Rattle.std.proofs.Common.{ℕ, ◌<◌, ◌+◌, length, map, sym, ap, ◌∙◌, subst, arith}
-use Rattle.std.specs.Prelude.{slice_index_or, []}
+use Rattle.std.proofs.Common.{◌<◌, ◌+◌, length, map, sym, ap, ◌∙◌, subst, arith}
+use Rattle.std.specs.Prelude.{[]}
 use Rattle.std.proofs.lemmas.List.{get_or-map, length-map}
 use Rattle.module_load.specs.Decisions.{IsNamedAt}
 use Rattle.module_load.proofs.Walks.{stand_at, stand_within}

@@ -1,7 +1,6 @@
 -- The row is that of the names, and what is known of each name is its verdict.
-use Rattle.std.proofs.Common.{◌≡◌, List, Option, ℕ, Bor, length, map, sym, ap, ◌∙◌, arith}
-use Rattle.std.specs.List.{filter_map, position}
-use Rattle.std.specs.Str.{bytes_eq}
+use Rattle.std.proofs.Common.{◌≡◌, Bor, map, sym, ap, ◌∙◌, arith}
+use Rattle.std.specs.List.{filter_map}
 use Rattle.std.proofs.lemmas.List.{length-map}
 use Rattle.py_tree.specs.Joined.{module_of, statements_of}
 use Rattle.py_tree.specs.Syntax.{Text}

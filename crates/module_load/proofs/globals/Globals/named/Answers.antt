@@ -1,5 +1,5 @@
 -- The row at the first place of the name.
-use Rattle.std.proofs.Common.{◌≡◌, ◌<◌, Some, None, length, map, slice_get, sym, ap, ◌∙◌}
+use Rattle.std.proofs.Common.{◌≡◌, Some, None, sym, ap, ◌∙◌}
 use Rattle.std.specs.List.{find, position}
 use Rattle.std.specs.Str.{bytes_eq}
 use Rattle.module_load.specs.declared.globals.ModuleGlobal.{ModuleGlobal}
