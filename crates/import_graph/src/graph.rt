@@ -226,6 +226,3 @@ fn copy_rows(alloc: Global, rows: &GraphRows) -> Result<GraphRows, AllocError>
     }
     Ok(copy)
 }
-
-#[cfg(test)]
-mod tests;

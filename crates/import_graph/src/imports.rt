@@ -111,6 +111,3 @@ fn taken_names(alloc: Global, names: &[Import]) -> Result<Texts, AllocError>
     }
     Ok(taken)
 }
-
-#[cfg(test)]
-mod tests;

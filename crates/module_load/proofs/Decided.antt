@@ -1,5 +1,5 @@
 -- What is decided after each phase.
-use Rattle.std.proofs.Common.{◌≡◌, ℕ, List, [], ◌∷◌, Bool, Option, Some, None, Result, Ok, Err, refl, sym, ap, subst, ◌∙◌}
+use Rattle.std.proofs.Common.{◌≡◌, ℕ, List, [], Option, Some, None, Ok, Err, sym, ap, subst, ◌∙◌}
 use Rattle.py_tree.specs.Syntax.{Text, Statements}
 use Rattle.py_tree.specs.Joined.{module_of, statements_of}
 use Rattle.py_tree.specs.declared.fault.Fault.{Fault}
@@ -15,7 +15,7 @@ use Rattle.symbols.specs.Words.{among}
 use Rattle.symbols.specs.declared.outer.Outer.{Outer}
 use Rattle.symbols.specs.declared.outer.OuterBinding.{OuterBinding}
 use Rattle.symbols.specs.declared.resolved.Resolved.{Resolved}
-use Rattle.module_load.specs.declared.verdict.ModuleGlobal.{ModuleGlobal}
+use Rattle.module_load.specs.declared.globals.ModuleGlobal.{ModuleGlobal}
 use Rattle.module_load.specs.declared.verdict.Verdict.TheVariants.{Published, Refused}
 use Rattle.module_load.specs.Bodies.{spent, unbuilt}
 use Rattle.module_load.specs.Decisions.{Decisions}

@@ -1,15 +1,13 @@
 -- What is decided of some modules.
-use Rattle.std.proofs.Common.{◌≡◌, ℕ, List, [], ◌∷◌, Bool, true, false, Option, Some, None, if◌then◌else◌, codes, refl}
+use Rattle.std.proofs.Common.{◌≡◌, ℕ, [], ◌∷◌, Bool, true, false, Option, Some, None, if◌then◌else◌, codes, refl}
 use Rattle.std.specs.Str.{bytes_eq}
 use Rattle.py_tree.specs.Syntax as x
 use Rattle.py_tree.specs.Syntax.{Text, Statement, Statements}
 use Rattle.py_tree.specs.Joined.{statements}
 use Rattle.py_tree.specs.declared.code.Code.TheVariants.{NotBuilt, NoSuchModule, RefusedImport, NoSuchName, PlainImport, Effect}
-use Rattle.py_tree.specs.declared.fault.Fault.{Fault}
 use Rattle.py_tree.specs.declared.statement.Import.{Import}
 use Rattle.symbols.specs.declared.outer.OuterKind.TheVariants as holds
-use Rattle.module_load.specs.declared.verdict.ModuleGlobal.{ModuleGlobal}
-use Rattle.module_load.specs.declared.verdict.Verdict.{Verdict}
+use Rattle.module_load.specs.declared.globals.ModuleGlobal.{ModuleGlobal}
 use Rattle.module_load.specs.declared.verdict.Verdict.TheVariants.{Published, Refused, Plain}
 use Rattle.module_load.specs.Bodies.{unbuilt}
 use Rattle.module_load.specs.Decisions.{Decisions}

@@ -4,10 +4,15 @@ pub mod OneState
 pub mod OneParse
 pub mod Phases
 pub mod Examples
+pub mod NamePlaces
 pub mod Folders
 pub mod FolderExamples
 pub mod FirstOnes
 pub mod Statements
+pub mod Walks
+pub mod ImportWalk
+pub mod Needs
+pub mod RowNames
 pub mod Held
 pub mod Named
 pub mod OneDecision

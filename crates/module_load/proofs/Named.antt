@@ -1,5 +1,5 @@
 -- The faults of imports and of names have codes that their numbers determine.
-use Rattle.std.proofs.Common.{◌≡◌, ℕ, ◌==◌, Bool, true, false, List, [], ◌∷◌, ◌++◌, if◌then◌else◌, codes, Option, Some, None, is_some, map, inl, inr, refl, sym, ap, subst, ◌∙◌, arith}
+use Rattle.std.proofs.Common.{◌≡◌, ℕ, ◌==◌, Bool, true, false, List, [], ◌∷◌, ◌++◌, if◌then◌else◌, codes, Option, Some, None, is_some, inl, inr, refl, sym, ap, ◌∙◌, arith}
 use Rattle.std.specs.List.{flat_map}
 use Rattle.std.specs.Str.{bytes_eq}
 use Rattle.py_tree.specs.Syntax as x
@@ -13,14 +13,14 @@ use Rattle.py_tree.specs.declared.statement.Import.{Import}
 use Rattle.symbols.specs.Faults.{In, IsFirst, bad_bases, bound_twice, coded, faults, late_imports, member_clashes}
 use Rattle.symbols.specs.ModuleKinds.{module_kind}
 use Rattle.symbols.specs.SpecialNames.{module_context, special_lines}
-use Rattle.symbols.specs.Words.{among, own_static_name, typing_name}
+use Rattle.symbols.specs.Words.{among, typing_name}
 use Rattle.symbols.specs.declared.outer.Outer.{Outer}
 use Rattle.symbols.specs.declared.resolved.ModuleKind.{ModuleKind}
 use Rattle.symbols.proofs.FirstOnes.{first_same}
 use Rattle.module_load.specs.declared.verdict.Verdict.{Verdict}
 use Rattle.module_load.specs.declared.verdict.Verdict.TheVariants as verdict
 use Rattle.module_load.specs.Decisions.{Decisions, global_named}
-use Rattle.module_load.specs.Imports.{import_faults, is_annotations, is_own_static, kind_faults, members_faults, module_faults, modules_faults, reserved, statement_faults, static_faults, taking_faults, typing_faults, unless}
+use Rattle.module_load.specs.Imports.{import_faults, is_annotations, is_own_static, members_faults, module_faults, modules_faults, reserved, statement_faults, taking_faults, unless}
 use Rattle.module_load.specs.Markers.{is_marker_alone}
 use Rattle.module_load.specs.Preparing.{fault}
 use Rattle.module_load.proofs.FirstOnes.{in_both}

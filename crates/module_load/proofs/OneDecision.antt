@@ -1,12 +1,10 @@
 -- One decision of a module is right.
-use Rattle.std.proofs.Common.{◌≡◌, ℕ, List, [], ◌∷◌, Option, Some, None, refl, sym, ap, ◌∙◌}
-use Rattle.py_tree.specs.Syntax.{Text, Statements}
+use Rattle.std.proofs.Common.{◌≡◌, List, [], Option, Some, None, refl, ap}
 use Rattle.py_tree.specs.declared.fault.Fault.{Fault}
 use Rattle.symbols.specs.Faults.{IsFirst, faults}
 use Rattle.symbols.proofs.FirstOnes.{first_of_none}
 use Rattle.module_load.specs.declared.verdict.Verdict.{Verdict}
-use Rattle.module_load.specs.declared.verdict.Verdict.TheVariants.{Published, Refused}
-use Rattle.module_load.specs.Decisions.{Decisions}
+use Rattle.module_load.specs.declared.verdict.Verdict.TheVariants.{Refused}
 use Rattle.module_load.specs.Imports.{import_faults}
 use Rattle.module_load.specs.Outers.{outer}
 use Rattle.module_load.specs.RightDecisions.{IsRight, bad_import, bad_name, not_built, out_of_fuel, is_published, OneDecision}

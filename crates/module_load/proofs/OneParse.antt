@@ -1,14 +1,12 @@
 -- Bytes spell one module, or there is one fault why they spell none.
-use Rattle.std.proofs.Common.{◌≡◌, ℕ, List, Result, Ok, Err, refl, sym, subst}
+use Rattle.std.proofs.Common.{◌≡◌, ℕ, List, Result, Ok, Err, subst}
 use Rattle.py_tree.specs.Syntax.{Statements}
-use Rattle.py_tree.specs.Joined.{module_of}
 use Rattle.py_tree.specs.declared.fault.Fault.{Fault}
 use Rattle.py_tree.specs.declared.fault.Stop.{Stop}
 use Rattle.py_tree.specs.declared.fault.Stop.TheVariants as stop
 use Rattle.py_tree.specs.declared.statement.Module.{Module}
-use Rattle.py_lexer.specs.declared.token.LogicalLine.{LogicalLine}
 use Rattle.py_lexer.proofs.WholeText as lexing
-use Rattle.py_blocks.specs.Blocks.{Rows, ModuleAt}
+use Rattle.py_blocks.specs.Blocks.{ModuleAt}
 use Rattle.py_blocks.specs.Faults.{Shallow, FaultIn}
 use Rattle.py_blocks.proofs.Complete.{at_most_one}
 use Rattle.py_blocks.proofs.Answering as blocks

@@ -1,5 +1,5 @@
 -- What is right depends on the files alone, and what is known is known of each module that is named.
-use Rattle.std.proofs.Common.{◌≡◌, ◌<◌, ◌||◌, ◌==◌, ℕ, zero, suc, Bool, true, false, cond, List, [], ◌∷◌, length, map, Option, Some, None, slice_get, nat_lt, refl, sym, ap, subst, ◌∙◌, arith}
+use Rattle.std.proofs.Common.{◌≡◌, ◌<◌, ◌||◌, ◌==◌, ℕ, zero, suc, Bool, true, false, cond, List, [], ◌∷◌, length, Option, Some, None, slice_get, nat_lt, refl, sym, ap, subst, ◌∙◌, arith}
 use Rattle.std.specs.List.{cons_option, filter_map, find, list_any, position, position_or_len}
 use Rattle.std.specs.Option.{option_map}
 use Rattle.std.specs.Str.{bytes_eq}
@@ -20,7 +20,7 @@ use Rattle.registry_core.specs.declared.sources.Sources.{Sources}
 use Rattle.module_load.specs.declared.source.Source.{Source}
 use Rattle.module_load.specs.declared.verdict.Verdict.{Verdict}
 use Rattle.module_load.specs.Decisions.{Decisions}
-use Rattle.module_load.specs.Folders.{File, IsSources, direct_import, direct_imports, graph_of, names_of, states_of}
+use Rattle.module_load.specs.Folders.{direct_import, direct_imports, graph_of, names_of, states_of}
 use Rattle.module_load.specs.Right.{KnownExactly, RightOfFiles, decided, decided_of, known_in, right_of_source, right_of_state, unless_cyclic}
 use Rattle.module_load.specs.Sources.{State, state_of, tree}
 use Rattle.module_load.proofs.Folders.{at, one_folder}

@@ -1,5 +1,5 @@
 -- What is right of a tree: what the relation has, and nothing else.
-use Rattle.std.proofs.Common.{◌≡◌, ◌↔◌, ℕ, List, [], ◌∷◌, Option, Some, None, refl, sym, subst}
+use Rattle.std.proofs.Common.{◌≡◌, ℕ, List, [], ◌∷◌, Option, Some, None, refl, sym, subst}
 use Rattle.py_tree.specs.Syntax.{Text, Statements}
 use Rattle.py_tree.specs.declared.fault.Fault.{Fault}
 use Rattle.symbols.specs.Bindings.{globals}

@@ -13,7 +13,7 @@ use Rattle.symbols.specs.ModuleKinds.{module_kind}
 use Rattle.symbols.specs.Words.{among, own_static_name, typing_name}
 use Rattle.symbols.specs.declared.resolved.ModuleKind.{ModuleKind}
 use Rattle.symbols.specs.declared.resolved.ModuleKind.TheVariants as kind
-use Rattle.module_load.specs.declared.verdict.ModuleGlobal.{ModuleGlobal}
+use Rattle.module_load.specs.declared.globals.ModuleGlobal.{ModuleGlobal}
 use Rattle.module_load.specs.declared.verdict.Verdict.{Verdict}
 use Rattle.module_load.specs.declared.verdict.Verdict.TheVariants as verdict
 use Rattle.module_load.specs.Decisions.{Decisions, global_named}

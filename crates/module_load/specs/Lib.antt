@@ -3,6 +3,8 @@ pub mod Markers
 pub mod Preparing
 pub mod Parsing
 pub mod Folders
+pub mod NamePlaces
+pub mod ImportWalk
 pub mod Decisions
 pub mod Imports
 pub mod Outers
@@ -11,3 +13,4 @@ pub mod RightDecisions
 pub mod Views
 pub mod FirstOnes
 pub mod Right
+pub mod Needs

@@ -1,5 +1,5 @@
 -- What the imports of a module's top part bind, from what is decided of the modules that they name.
-use Rattle.std.specs.Prelude.{ℕ, Bool, true, false, if◌then◌else◌, List, [], ◌∷◌, codes, Option, Some, None, is_some}
+use Rattle.std.specs.Prelude.{ℕ, if◌then◌else◌, List, [], ◌∷◌, codes, Option, Some, None, is_some}
 use Rattle.std.specs.List.{flat_map}
 use Rattle.std.specs.Str.{bytes_eq}
 use Rattle.py_tree.specs.Syntax as x
@@ -12,7 +12,7 @@ use Rattle.symbols.specs.declared.outer.Outer.{Outer}
 use Rattle.symbols.specs.declared.outer.OuterBinding.{OuterBinding}
 use Rattle.symbols.specs.declared.outer.OuterKind.{OuterKind}
 use Rattle.symbols.specs.declared.outer.OuterKind.TheVariants as holds
-use Rattle.module_load.specs.declared.verdict.ModuleGlobal.{ModuleGlobal}
+use Rattle.module_load.specs.declared.globals.ModuleGlobal.{ModuleGlobal}
 use Rattle.module_load.specs.declared.verdict.Verdict.{Verdict}
 use Rattle.module_load.specs.declared.verdict.Verdict.TheVariants as verdict
 use Rattle.module_load.specs.Decisions.{Decisions, global_named}

@@ -9,7 +9,7 @@ use Rattle.symbols.specs.Words.{among}
 use Rattle.symbols.specs.declared.outer.OuterBinding.{OuterBinding}
 use Rattle.symbols.specs.declared.outer.OuterKind.{OuterKind}
 use Rattle.symbols.specs.declared.outer.OuterKind.TheVariants as holds
-use Rattle.module_load.specs.declared.verdict.ModuleGlobal.{ModuleGlobal}
+use Rattle.module_load.specs.declared.globals.ModuleGlobal.{ModuleGlobal}
 use Rattle.module_load.specs.declared.verdict.Verdict.{Verdict}
 use Rattle.module_load.specs.declared.verdict.Verdict.TheVariants.{Published, Refused}
 use Rattle.module_load.specs.Bodies.{spent, unbuilt}

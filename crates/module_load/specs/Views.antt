@@ -1,7 +1,6 @@
 -- No definition of the language: what the parts of `prepare` and `decide` answer.
 use Rattle.std.specs.Prelude.{ℕ, if◌then◌else◌, List, Result, Ok, Err}
 use Rattle.py_tree.specs.Syntax.{Text, Statements}
-use Rattle.py_tree.specs.declared.fault.Fault.{Fault}
 use Rattle.py_tree.specs.declared.fault.Stop.{Stop}
 use Rattle.py_tree.specs.declared.fault.Stop.TheVariants as stop
 use Rattle.py_lexer.specs.declared.token.LogicalLine.{LogicalLine}
@@ -10,7 +9,7 @@ use Rattle.py_blocks.specs.Rows.{rows_of}
 use Rattle.symbols.specs.Names.{with_name}
 use Rattle.symbols.specs.declared.outer.OuterBinding.{OuterBinding}
 use Rattle.module_load.specs.declared.source.SourceState.{SourceState}
-use Rattle.module_load.specs.declared.verdict.ModuleGlobal.{ModuleGlobal}
+use Rattle.module_load.specs.declared.globals.ModuleGlobal.{ModuleGlobal}
 use Rattle.module_load.specs.declared.verdict.Verdict.TheVariants.{Published, Refused}
 use Rattle.module_load.specs.Decisions.{Decisions}
 use Rattle.module_load.specs.RightDecisions.{IsRight, is_module}

@@ -3,16 +3,19 @@ ghost use Rattle.py_tree.specs.Joined.{module_of};
 ghost use Rattle.py_tree.specs.Lawful.{lawful};
 ghost use Rattle.py_tree.specs.Syntax.{Text as Name};
 ghost use Rattle.symbols.specs.Words.{among};
+ghost use Rattle.module_load.specs.Decisions.{imported_names};
 ghost use Rattle.module_load.specs.RightDecisions as rule;
 ghost use Rattle.module_load.specs.RightDecisions.{IsRight};
 ghost use Rattle.module_load.specs.Views.{IsDecided, with_module};
 ghost use Rattle.module_load.specs.declared.verdict.Verdict.{Verdict as Decision};
 
 use crate::body::{spent, unbuilt};
+use crate::globals::{Globals, ModuleGlobal};
 use crate::import_faults::first_import_fault;
 use crate::known::Known;
 use crate::outer::outer;
-use crate::verdict::{Globals, ModuleGlobal, Verdict};
+use crate::verdict::Verdict;
+use lists::Items;
 use py_tree::fault::Stop;
 use py_tree::statement::Module;
 use py_tree::text::Text;
@@ -21,7 +24,8 @@ use symbols::names::Names;
 use symbols::outer::{OuterBinding, OuterKind};
 use symbols::resolve::resolve;
 
-/// What is decided of a module that stands on no cycle of imports, by its name and number, from what is decided of those that it needs.
+/// What is decided of a module that stands on no cycle of imports, by its name and number, from what is decided of those that its imports
+/// name.
 pub fn decide<K: Known>(
     alloc: Global,
     tree: &Module,
@@ -29,7 +33,8 @@ pub fn decide<K: Known>(
     number: u32,
     known: &K,
 ) -> Result<Verdict, AllocError>
-    requires { lawful (module_of tree.now) ≡ true }
+    requires lawful { lawful (module_of tree.now) ≡ true }
+    requires names { K.names known.now ≡ imported_names (module_of tree.now) }
     // What is answered is so.
     ensures so { IfOk result (λ verdict. IsRight (K.decisions known.now) name.now number (module_of tree.now) verdict) }
     // What is so is answered.
@@ -50,7 +55,8 @@ fn published<K: Known>(
     number: u32,
     known: &K,
 ) -> Result<Globals, Stop>
-    requires { lawful (module_of tree.now) ≡ true }
+    requires lawful { lawful (module_of tree.now) ≡ true }
+    requires names { K.names known.now ≡ imported_names (module_of tree.now) }
     ensures { IsDecided (K.decisions known.now) name.now number (module_of tree.now) result }
 {
     let body = tree.body.as_slice();
@@ -103,12 +109,12 @@ fn is_module(kind: &OuterKind) -> bool
 fn held(alloc: Global, modules: &Names<'_>, names: &[Text]) -> Result<Globals, AllocError>
     ensures { IfOk result (λ globals. globals ≡ rule.held modules.now names.now) }
 {
-    let mut globals = Globals::new(alloc);
+    let mut rows = Items::new(alloc);
     for name in names {
-        globals.push(ModuleGlobal {
+        rows.push(ModuleGlobal {
             name: name.copy(alloc)?,
             holds_module: modules.has(name),
         })?;
     }
-    Ok(globals)
+    Globals::from_rows(alloc, rows)
 }

@@ -2,8 +2,10 @@ ghost use Rattle.std.specs.Prelude.{◌≡◌, ◌≤◌, ◌<◌, IfOk, length,
 ghost use Rattle.std.specs.List.{filter_map, position};
 ghost use Rattle.std.specs.Str.{bytes_eq};
 ghost use Rattle.module_load.specs.Folders.{AreSources, IsSources, OneFolder, direct_import, direct_imports, file_of, graph_of, names_of};
+ghost use Rattle.module_load.specs.NamePlaces.{ArePlacesOf};
 ghost use Rattle.module_load.specs.Sources.{state_of};
 
+use crate::name_places::NamePlaces;
 use crate::preparing::prepare;
 use crate::source::{Source, SourceState};
 use import_graph::graph::{Graph, build_graph};
@@ -23,7 +25,7 @@ pub struct ModuleFile {
 }
 
 /// What each module of a folder is by itself, and which it imports, from their files in the order of their numbers. A name that
-/// stands twice is that of the first. In time linear in the bytes, and for each import in the number of modules.
+/// stands twice is that of the first. In time linear in the bytes and in the imports, but for what the graph takes.
 pub fn sources_of(alloc: Global, files: &[ModuleFile]) -> Result<Sources<Source>, AllocError>
     requires { length files.now ≤ 4294967295 }
     ensures { IfOk result (λ all. IsSources (map file_of files.now) all) }
@@ -54,35 +56,59 @@ fn graph_of(alloc: Global, list: &[Source]) -> Result<Graph, AllocError>
     requires { length list.now ≤ 4294967295 }
     ensures { IfOk result (λ graph. graph ≡ graph_of list.now) }
 {
+    let places = places_of(alloc, list)?;
     let mut rows = Items::new(alloc);
     for source in list {
-        rows.push(direct_imports(alloc, list, source)?)?;
+        rows.push(direct_imports(alloc, list, &places, source)?)?;
     }
     build_graph(alloc, &rows)
 }
 
+/// Where each name first stands.
+fn places_of(alloc: Global, list: &[Source]) -> Result<NamePlaces, AllocError>
+    ensures { IfOk result (λ places. ArePlacesOf places (names_of list.now)) }
+{
+    let mut places = NamePlaces::new(alloc);
+    for (place, source) in list.iter().enumerate() {
+        places.note(alloc, &source.name, place)?;
+    }
+    Ok(places)
+}
+
 /// Which of these modules the source imports, in the order of its text.
-fn direct_imports(alloc: Global, list: &[Source], source: &Source) -> Result<GraphRow, AllocError>
-    requires { length list.now ≤ 4294967295 }
+fn direct_imports(
+    alloc: Global,
+    list: &[Source],
+    places: &NamePlaces,
+    source: &Source,
+) -> Result<GraphRow, AllocError>
+    requires few { length list.now ≤ 4294967295 }
+    requires places { ArePlacesOf places.now (names_of list.now) }
     ensures { IfOk result (λ row. row ≡ direct_imports (names_of list.now) (state_of source.now.state)) }
 {
     match &source.state {
         SourceState::Tree(tree) => {
             let rows = imports_of(alloc, tree)?;
-            numbered(alloc, list, rows.as_slice())
+            numbered(alloc, list, places, rows.as_slice())
         }
         _ => Ok(Items::new(alloc)),
     }
 }
 
 /// The imports that name one of these modules, by its number.
-fn numbered(alloc: Global, list: &[Source], rows: &[ImportRow]) -> Result<GraphRow, AllocError>
-    requires { length list.now ≤ 4294967295 }
+fn numbered(
+    alloc: Global,
+    list: &[Source],
+    places: &NamePlaces,
+    rows: &[ImportRow],
+) -> Result<GraphRow, AllocError>
+    requires few { length list.now ≤ 4294967295 }
+    requires places { ArePlacesOf places.now (names_of list.now) }
     ensures { IfOk result (λ row. row ≡ filter_map (direct_import (names_of list.now)) rows.now) }
 {
     let mut direct = Items::new(alloc);
     for row in rows {
-        if let Some(number) = number_of(list, &row.module) {
+        if let Some(number) = number_of(list, places, &row.module) {
             direct.push(DirectImport {
                 line: row.line,
                 module: number,
@@ -93,12 +119,13 @@ fn numbered(alloc: Global, list: &[Source], rows: &[ImportRow]) -> Result<GraphR
 }
 
 /// The number of the first of these modules that has the name.
-pub(crate) fn number_of(list: &[Source], name: &Text) -> Option<u32>
-    requires { length list.now ≤ 4294967295 }
+fn number_of(list: &[Source], places: &NamePlaces, name: &Text) -> Option<u32>
+    requires few { length list.now ≤ 4294967295 }
+    requires places { ArePlacesOf places.now (names_of list.now) }
     ensures { result ≡ position (bytes_eq name.now) (names_of list.now) }
 {
-    let place = list
-        .iter()
-        .position(|source| name.as_slice() == source.name.as_slice())?;
-    Some(place as u32)
+    match places.get(name) {
+        Some(place) => Some(place as u32),
+        None => None,
+    }
 }

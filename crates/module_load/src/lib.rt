@@ -5,9 +5,13 @@
 mod body;
 pub mod deciding;
 pub mod folder;
+pub mod globals;
 mod import_faults;
+mod imported;
 pub mod known;
 pub mod laws;
+mod name_places;
+mod needed;
 mod outer;
 pub mod preparing;
 pub mod source;

@@ -2,11 +2,13 @@ ghost use Rattle.std.specs.Prelude.{◌≡◌, ◌++◌, [], ◌∷◌, IfOk, On
 ghost use Rattle.std.specs.List.{flat_map};
 ghost use Rattle.std.specs.Option.{option_copied};
 ghost use Rattle.py_tree.specs.Joined.{kind_of, statement_of, statements_of};
+ghost use Rattle.module_load.specs.Decisions.{IsNamedAt, StandAt, imported_names, kind_names, statement_names};
 ghost use Rattle.module_load.specs.Outers as rule;
 
+use crate::globals::ModuleGlobal;
 use crate::import_faults::top_imports;
-use crate::known::{Known, global_named};
-use crate::verdict::{ModuleGlobal, Verdict};
+use crate::known::{Known, named_count};
+use crate::verdict::Verdict;
 use py_tree::statement::{Import, Stmt, StmtKind};
 use py_tree::text::Text;
 use std::alloc::{AllocError, Global};
@@ -22,6 +24,7 @@ pub(crate) fn outer<K: Known>(
     number: u32,
     body: &[Stmt],
 ) -> Result<Outer, AllocError>
+    requires { K.names known.now ≡ imported_names (statements_of body.now) }
     ensures { IfOk result (λ outer. outer ≡ rule.outer (K.decisions known.now) name.now number (statements_of body.now)) }
 {
     let mut bindings = OuterBindings::new(alloc);
@@ -39,26 +42,32 @@ fn put_statements<K: Known>(
     imports: &[Stmt],
     bindings: &mut OuterBindings,
 ) -> Result<(), AllocError>
+    requires { K.names known.now ≡ flat_map statement_names (map statement_of imports.now) }
     ensures { OnOk result (bindings.new ≡ bindings.old ++ flat_map (rule.statement_bindings (K.decisions known.now)) (map statement_of imports.now)) }
 {
+    let mut place = 0;
     for statement in imports {
-        put_statement(alloc, known, &statement.kind, bindings)?;
+        put_statement(alloc, known, place, &statement.kind, bindings)?;
+        place += named_count(&statement.kind);
     }
     Ok(())
 }
 
+/// Puts what a statement binds whose first import has that place.
 fn put_statement<K: Known>(
     alloc: Global,
     known: &K,
+    place: usize,
     kind: &StmtKind,
     bindings: &mut OuterBindings,
 ) -> Result<(), AllocError>
+    requires { StandAt (K.names known.now) place (kind_names (kind_of kind.now)) }
     ensures { OnOk result (bindings.new ≡ bindings.old ++ rule.kind_bindings (K.decisions known.now) (kind_of kind.now)) }
 {
     match kind {
         StmtKind::Import(names) => put_modules(alloc, names.as_slice(), bindings),
         StmtKind::From { module, names } => {
-            put_members(alloc, known, module, names.as_slice(), bindings)
+            put_members(alloc, known, place, module, names.as_slice(), bindings)
         }
         _ => Ok(()),
     }
@@ -93,31 +102,34 @@ fn module_kind(alloc: Global) -> OuterKind
 fn put_members<K: Known>(
     alloc: Global,
     known: &K,
+    place: usize,
     from: &Text,
     names: &[Import],
     bindings: &mut OuterBindings,
 ) -> Result<(), AllocError>
+    requires { IsNamedAt (K.names known.now) place from.now }
     ensures { OnOk result (bindings.new ≡ bindings.old ++ rule.members_bindings (K.decisions known.now) from.now names.now) }
 {
     if is_word(from, b"__future__") {
         return Ok(());
     }
-    put_each_member(alloc, known, from, names, bindings)
+    put_each_member(alloc, known.verdict(place), from, names, bindings)
 }
 
-fn put_each_member<K: Known>(
+/// Puts what these names bind of a module of which this is decided.
+fn put_each_member(
     alloc: Global,
-    known: &K,
+    verdict: Option<&Verdict>,
     from: &Text,
     names: &[Import],
     bindings: &mut OuterBindings,
 ) -> Result<(), AllocError>
-    ensures { OnOk result (bindings.new ≡ bindings.old ++ flat_map (rule.member_bindings (K.decisions known.now) from.now) names.now) }
+    ensures { OnOk result (bindings.new ≡ bindings.old ++ flat_map (rule.member_bindings (λ _. option_copied verdict.entry) from.now) names.now) }
 {
     for import in names {
         if static_name(from, &import.name).is_none() {
             let name = bound_name(import).copy(alloc)?;
-            let kind = member_kind(alloc, &import.name, known.verdict(from));
+            let kind = member_kind(alloc, &import.name, verdict);
             bindings.push(OuterBinding { name, kind })?;
         }
     }
@@ -129,9 +141,7 @@ fn member_kind(alloc: Global, name: &Text, verdict: Option<&Verdict>) -> OuterKi
     ensures { result ≡ rule.member_kind name.now (option_copied verdict.entry) }
 {
     match verdict {
-        Some(Verdict::Published(globals)) => {
-            global_kind(alloc, global_named(globals.as_slice(), name))
-        }
+        Some(Verdict::Published(globals)) => { global_kind(alloc, globals.named(name)) }
         _ => OuterKind::Other,
     }
 }

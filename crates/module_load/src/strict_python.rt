@@ -1,23 +1,35 @@
+ghost use Rattle.std.specs.Prelude.{◌≡◌, ◌<◌, ℕ, Some, true, IfOk, slice_get};
+ghost use Rattle.import_graph.specs.Closure.{count};
+ghost use Rattle.import_graph.specs.Graph.{row_of};
+ghost use Rattle.py_tree.specs.Joined.{module_of};
+ghost use Rattle.py_tree.specs.Lawful.{lawful};
+ghost use Rattle.registry_core.specs.declared.imports.Import.{Import as Row};
+ghost use Rattle.module_load.specs.Folders.{direct_imports, names_of};
+ghost use Rattle.module_load.specs.Needs.{rows_of};
+ghost use Rattle.module_load.specs.Right.{known_in};
+ghost use Rattle.module_load.specs.RightDecisions.{IsRight};
+ghost use Rattle.module_load.specs.Sources.{tree as a_tree};
+ghost use Rattle.module_load.specs.declared.verdict.Verdict.{Verdict as Decision};
+
 use crate::deciding::decide;
-use crate::folder::number_of;
-use crate::known::Known;
+use crate::imported::{imported, numbers};
+use crate::needed::{Needed, by_number, verdicts};
 use crate::source::{Source, SourceState};
 use crate::verdict::Verdict;
 use lists::{ElementAt, Items};
 use py_tree::code::Code;
 use py_tree::fault::Fault;
+use py_tree::statement::Module;
 use py_tree::text::Text;
 use registry_core::imports::Imports;
 use registry_core::loads::Loads;
 use registry_core::sources::Sources;
 use std::alloc::{AllocError, Global};
 
-/// How the modules of a folder are loaded: which is plain, which is refused at which line by which code, and which is published.
+/// How the modules of a folder are loaded: which is plain, which is refused at which line by which code, and which is published. The sources
+/// are those whose graph is that of their imports.
 #[derive(Clone, Copy)]
-pub struct StrictPython {
-    /// What a loaded module takes its memory from.
-    pub alloc: Global,
-}
+pub struct StrictPython;
 
 impl Loads for StrictPython {
     type Source = Source;
@@ -27,6 +39,7 @@ impl Loads for StrictPython {
     type Data = Verdict;
 
     ghost use Rattle.std.specs.Prelude.{◌≡◌};
+    ghost use Rattle.module_load.specs.Folders.{graph_of};
     ghost use Rattle.module_load.specs.Right.{is_refused, right};
 
     ghost verdict_data = { λ verdict. verdict };
@@ -35,12 +48,15 @@ impl Loads for StrictPython {
 
     ghost is_right = { λ loads all m list verdict. verdict ≡ right all m list };
 
+    ghost is_loadable = { λ loads all. all.graph ≡ graph_of all.list };
+
     ghost is_refused = { λ verdict. is_refused verdict };
 
     ghost right_data = { λ loads all m list verdict h. h };
 
     fn load(
         &self,
+        alloc: Global,
         all: &Sources<Source>,
         module: u32,
         imports: &Imports<Verdict>,
@@ -53,10 +69,7 @@ impl Loads for StrictPython {
         match &source.state {
             SourceState::Plain => Ok(Verdict::Plain),
             SourceState::Faulty(fault) => Ok(Verdict::Refused(*fault)),
-            SourceState::Tree(tree) => {
-                let needed = Needed { all, imports };
-                decide(self.alloc, tree, &source.name, module, &needed)
-            }
+            SourceState::Tree(tree) => load_tree(alloc, all, module, &source.name, tree, imports),
         }
     }
 
@@ -65,25 +78,31 @@ impl Loads for StrictPython {
     }
 }
 
-/// What is decided of the modules that a module needs.
-#[derive(Clone, Copy)]
-struct Needed<'a> {
-    all: &'a Sources<Source>,
-    imports: &'a Imports<Verdict>,
-}
-
-impl<'a> Known for Needed<'a> {
-    ghost use Rattle.registry_core.specs.Verdicts.{data_list};
-    ghost use Rattle.module_load.specs.Folders.{names_of};
-    ghost use Rattle.module_load.specs.Right.{known_in};
-
-    ghost decisions = { λ needed. known_in (names_of needed.all.now.list) (data_list (λ verdict. verdict) needed.imports.now.rows) };
-
-    fn verdict(&self, name: &Text) -> Option<&Verdict> {
-        let modules = self.all.list.as_slice();
-        prove!(modules.len() == self.all.graph.count() as usize);
-        let number = number_of(modules, name)?;
-        let verdict = self.imports.get(number)?;
-        Some(&**verdict)
-    }
+/// The verdict of a module that stands on no cycle of imports.
+fn load_tree(
+    alloc: Global,
+    all: &Sources<Source>,
+    module: u32,
+    name: &Text,
+    tree: &Module,
+    imports: &Imports<Verdict>,
+) -> Result<Verdict, AllocError>
+    requires lawful { lawful (module_of tree.now) ≡ true }
+    requires there { «module» < count all.now.graph }
+    requires row { row_of all.now.graph «module» ≡ direct_imports (names_of all.now.list) (a_tree (module_of tree.now)) }
+    requires within { (k : ℕ) (row : Row Decision) → slice_get imports.now.rows k ≡ Some row → row.module < count all.now.graph }
+    ensures { IfOk result (λ verdict. (decision : Decision) → IsRight (known_in (names_of all.now.list) (rows_of imports.now.rows)) name.now «module» (module_of tree.now) decision → decision ≡ verdict) }
+{
+    let modules = all.list.as_slice();
+    let names = imported(alloc, tree.body.as_slice())?;
+    let numbers = numbers(alloc, modules, all.graph.row(module), names.as_slice())?;
+    let table = by_number(alloc, imports, all.graph.count())?;
+    let verdicts = verdicts(alloc, table.as_slice(), numbers.as_slice())?;
+    let needed = Needed {
+        all,
+        imports,
+        names: names.as_slice(),
+        verdicts: verdicts.as_slice(),
+    };
+    decide(alloc, tree, name, module, &needed)
 }

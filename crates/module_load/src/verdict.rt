@@ -1,9 +1,8 @@
 ghost use Rattle.std.specs.Prelude.{◌≡◌};
 ghost use Rattle.module_load.specs.Right.{is_refused};
 
-use lists::Items;
+use crate::globals::Globals;
 use py_tree::fault::Fault;
-use py_tree::text::Text;
 
 /// What is decided of a module.
 #[derive(Drop)]
@@ -22,14 +21,3 @@ impl Verdict {
         matches!(self, Verdict::Refused(_))
     }
 }
-
-/// A global of a published module.
-#[derive(Drop)]
-pub struct ModuleGlobal {
-    pub name: Text,
-    /// An import binds it to a module.
-    pub holds_module: bool,
-}
-
-/// The globals of a module, each once.
-pub type Globals = Items<ModuleGlobal>;

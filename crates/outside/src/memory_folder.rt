@@ -174,6 +174,3 @@ fn file_front(alloc: Global, files: &[FileRow], name: &str) -> Result<Vec<u8>, A
     let row = find_file(files, name).unwrap();
     Vec::from_slice(alloc, front(row.bytes.as_slice()))
 }
-
-#[cfg(test)]
-mod tests;

@@ -83,21 +83,3 @@ impl Sink for MemorySink {
         Ok(n)
     }
 }
-
-#[cfg(test)]
-mod tests {
-    use super::*;
-    use std::test::Fail;
-
-    #[test]
-    fn takes_so_many_bytes_and_fails_when_told(rt: HostRuntime) -> Result<(), Fail> {
-        let mut failing = CallList::new(rt.alloc());
-        failing.push(2)?;
-        let mut sink = MemorySink::new(rt.alloc(), 3, failing);
-        assert_eq!(rt; sink.write(b"abcde"), Ok(3));
-        assert_eq!(rt; sink.write(b"de"), Err(SinkFault::Failed));
-        assert_eq!(rt; sink.write(b"de"), Ok(2));
-        assert_eq!(rt; sink.written(), b"abcde".as_slice());
-        Ok(())
-    }
-}

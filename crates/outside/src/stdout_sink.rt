@@ -74,14 +74,3 @@ fn write_some(rt: &impl Print, bytes: &[u8]) -> io::Result<usize>
     }
     Err(io::Error::from(ErrorKind::TimedOut))
 }
-
-#[cfg(test)]
-mod tests {
-    use super::*;
-
-    #[test]
-    fn writes_a_piece_and_answers_its_length(rt: HostRuntime) {
-        let mut sink = StdoutSink::new(&rt);
-        assert_eq!(rt; sink.write(b"a piece\n"), Ok(8));
-    }
-}

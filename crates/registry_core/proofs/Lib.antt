@@ -4,6 +4,7 @@ pub mod Events
 pub mod Keeps
 pub mod Whole
 pub mod Progress
+pub mod OnceEach
 pub mod Gathered
 pub mod Lists
 pub mod Runs

@@ -1,6 +1,7 @@
 -- What `claim` answers.
-use Rattle.std.specs.Prelude.{◌≡◌, ◌<◌, ℕ, true, false, ⊤, List}
+use Rattle.std.specs.Prelude.{◌≡◌, ◌<◌, ℕ, true, false, ⊤, List, map}
 use Rattle.std.specs.List.{list_any}
+use Rattle.import_graph.specs.Closure.{need_of}
 use Rattle.registry_core.specs.declared.loads.Loads.{Ghosts as LoadsGhosts}
 use Rattle.registry_core.specs.declared.naming.Naming.{Ghosts as NamingGhosts}
 use Rattle.registry_core.specs.declared.imports.Import.{Import}
@@ -10,6 +11,7 @@ use Rattle.registry_core.specs.declared.slot.EventKind.TheVariants.{Claim}
 use Rattle.registry_core.specs.declared.claim.ClaimAnswer.{ClaimAnswer}
 use Rattle.registry_core.specs.declared.claim.ClaimAnswer.TheVariants.{Claimed, AllDecided, Stopped, NoneReady, Memory}
 use Rattle.registry_core.specs.Slots.{slot_at, is_claimed, is_withdrawn}
+use Rattle.registry_core.specs.Verdicts.{named_graph}
 use Rattle.registry_core.specs.View.{RegistryView, moved}
 use Rattle.registry_core.specs.Named.{module_count, is_ready_in, IsNeedOf}
 
@@ -38,7 +40,7 @@ module _ {A : Type 0} where
   opened NoneReady = 0
   opened (Memory e) = 0
 
--- module m, which was ready, is now claimed by l, the loader that asked, and the verdicts of its need were handed out
+-- module m, which was ready, is now claimed by l, the loader that asked, and the verdicts of its need were handed out, ascending
 pub record IsHandedOut {L S V D N : Type 0} (T : LoadsGhosts L S V D) (M : NamingGhosts N L S) (old new : RegistryView V) (rows : List (Import V)) (loader m l : ℕ) : Type 0 where
   pub by : l ≡ loader
   pub there : m < module_count M
@@ -47,6 +49,7 @@ pub record IsHandedOut {L S V D N : Type 0} (T : LoadsGhosts L S V D) (M : Namin
   pub event : new ≡ moved old Claim m l (ClaimedBy l)
   pub slot : slot_at new.slots m ≡ ClaimedBy l
   pub imports : IsNeedOf T M m rows
+  pub ascending : map (λ (row : Import V). row.module) rows ≡ need_of (named_graph M.sources) m
 
 -- nothing can be claimed, no claim was withdrawn, and some module is claimed
 pub record IsBusy {L S N : Type 0} (M : NamingGhosts N L S) (slots : List Slot) : Type 0 where

@@ -35,11 +35,11 @@ pub record HasFronts (graph : Rows) (slots : List Slot) (fronts : List ℕ) : Ty
   pub all : length fronts ≡ count graph
   pub decided : (m : ℕ) → all_decided slots (take (slice_index_or fronts m 0) (direct_of graph m)) ≡ true
 
-pub record IsKept {L S V D N : Type 0} (T : LoadsGhosts L S V D) (M : NamingGhosts N L S) (all : Sources S) (v : RegistryView V) (fronts : List ℕ) (capacity open_claims : ℕ) : Type 0 where
+pub record IsKept {L S V D N : Type 0} (T : LoadsGhosts L S V D) (M : NamingGhosts N L S) (all : Sources S) (v : RegistryView V) (fronts : List ℕ) (capacity : ℕ) : Type 0 where
   pub loads : L
   pub is_loads : M.loads ≡ Some loads
   pub is_sources : M.sources ≡ Some all
-  pub right_one : IsRight (rules_of T.right T.is_refused loads all) (count all.graph) (state_of T.verdict_data v) v.history open_claims
+  pub right_one : IsRight (rules_of T.right T.is_refused loads all) (count all.graph) (state_of T.verdict_data v) v.history v.open_claims
   pub places : HasPlaces (count all.graph) (state_of T.verdict_data v) v.history capacity
   pub seen : HasFronts all.graph v.slots fronts
   pub each : (m : ℕ) (verdict : V) → verdict_at v.verdicts m ≡ Some verdict → IsVerdictOf T M m verdict

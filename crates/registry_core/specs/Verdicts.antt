@@ -1,7 +1,7 @@
 -- Right verdicts, over the world of what is loaded and from where.
-use Rattle.std.specs.Prelude.{◌≡◌, ℕ, Bool, List, [], ◌∷◌, length, map, Option, Some, None, slice_get}
+use Rattle.std.specs.Prelude.{◌≡◌, ◌==◌, ℕ, Bool, true, false, List, [], ◌∷◌, length, Option, Some, None, slice_get, count_by}
 use Rattle.std.specs.Arc.{arc_value}
-use Rattle.import_graph.specs.Graph.{Rows}
+use Rattle.import_graph.specs.Graph.{Rows, has}
 use Rattle.import_graph.specs.Closure.{count, need_of}
 use Rattle.import_graph.specs.World.{Rules, rules_over, world, needs}
 use Rattle.registry_core.specs.declared.sources.Sources.{Sources}
@@ -30,10 +30,15 @@ IsWorldData right is_refused (Some l) (Some all) m d = d ≡ world (rules_of rig
 IsWorldData right is_refused (Some l) None m d = ⊥
 IsWorldData right is_refused None sources m d = ⊥
 
--- these rows are the need of m, in its order, each with a right verdict
+-- how many of the rows are of this module
+abbrev pub count_rows : {V : Type 0} → ℕ → List (Import V) → ℕ
+count_rows n rows = count_by (λ (row : Import _). row.module == n) rows
+
+-- each module of the need of m stands in exactly one of these rows, and no other module in any; each row has a right verdict
 pub record Gathers {L S V D : Type 0} (right : L → Sources S → ℕ → List (ℕ × D) → D) (is_right : L → Sources S → ℕ → List (ℕ × D) → V → Type 0) (is_refused : D → Bool)
     (loads : Option L) (sources : Option (Sources S)) (m : ℕ) (rows : List (Import V)) : Type 0 where
-  pub modules : map (λ (row : Import V). row.module) rows ≡ need_of (named_graph sources) m
+  pub once : (n : ℕ) → has n (need_of (named_graph sources) m) ≡ true → count_rows n rows ≡ 1
+  pub no_other : (n : ℕ) → has n (need_of (named_graph sources) m) ≡ false → count_rows n rows ≡ 0
   pub verdicts : (k : ℕ) (row : Import V) → slice_get rows k ≡ Some row → IsWorld right is_right is_refused loads sources row.module (arc_value row.verdict)
 
 -- there is one verdict for each module, a right one, and their data are the world

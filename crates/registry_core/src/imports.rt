@@ -49,7 +49,7 @@ impl<V: Drop> Imports<V> {
         self.rows.as_slice()
     }
 
-    /// The verdict of the module, where it has a row.
+    /// The verdict of the module, where it has a row. In time linear in the rows.
     pub fn get(&self, module: u32) -> Option<&Arc<V>>
         ensures { option_copied result ≡ verdict_of self.now.rows «module» }
     {
@@ -84,24 +84,5 @@ impl<V: Drop> Imports<V> {
         ensures room { self.new.room ≡ self.old.room }
     {
         self.rows.clear();
-    }
-}
-
-#[cfg(test)]
-mod tests {
-    use super::*;
-    use std::test::Fail;
-
-    #[test]
-    fn verdicts_are_found_by_their_modules(rt: HostRuntime) -> Result<(), Fail> {
-        let alloc = rt.alloc();
-        let mut imports = Imports::with_room(alloc, 2)?;
-        imports.put(7, Arc::new(alloc, 'a')?);
-        imports.put(3, Arc::new(alloc, 'b')?);
-        assert_eq!(rt; imports.get(7).map(|verdict| **verdict), Some('a'));
-        assert_eq!(rt; imports.get(3).map(|verdict| **verdict), Some('b'));
-        assert_eq!(rt; imports.get(0).map(|verdict| **verdict), None);
-        assert_eq!(rt; imports.as_slice().len(), 2);
-        Ok(())
     }
 }

@@ -5,7 +5,7 @@ ghost use Rattle.registry_core.specs.declared.sources.Sources.{Sources};
 
 use crate::imports::Imports;
 use crate::sources::Sources;
-use std::alloc::AllocError;
+use std::alloc::{AllocError, Global};
 
 /// A way to load modules: what decides one, given the verdicts of those that it needs, and which verdict is right.
 pub trait Loads {
@@ -27,16 +27,21 @@ pub trait Loads {
     /// Which verdicts are right, from the same.
     ghost is_right: { Self → Sources Self.Source → ℕ → List (ℕ × Self.Data) → Self.Verdict → Type 0 };
 
+    /// Of which sources it loads modules.
+    ghost is_loadable: { Self → Sources Self.Source → Type 0 };
+
     /// Whether data is that of a refused module.
     ghost is_refused: { Self.Data → Bool };
 
-    /// A right verdict of a module, given right verdicts of all that it needs.
+    /// A right verdict of a module, given right verdicts of all that it needs, in any order.
     fn load(
         &self,
+        alloc: Global,
         all: &Sources<Self::Source>,
         module: u32,
         imports: &Imports<Self::Verdict>,
     ) -> Result<Self::Verdict, AllocError>
+        requires loadable { is_loadable self.now all.now }
         requires there { «module» < count all.now.graph }
         requires imports { Gathers right is_right is_refused (Some self.now) (Some all.now) «module» imports.now.rows }
         ensures { IfOk result (λ verdict. IsWorld right is_right is_refused (Some self.now) (Some all.now) «module» verdict) };

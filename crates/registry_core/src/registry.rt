@@ -22,7 +22,7 @@ use std::sync::Arc;
 use std::sync::ledger::{Blank, Book, Share};
 
 /// Which modules are claimed and by whom, which are decided and by which verdicts. Its type says that it is right, as long as it lives:
-/// `history` and `into_world` tell what that means. Contracts see its slots, its verdicts and its history.
+/// `history` and `into_world` tell what that means. Contracts see its slots, its verdicts, its history and the total of its book.
 #[derive(Drop)]
 pub struct Registry<L: Loads, N: Naming<L, L::Source>> {
     all: Arc<Sources<L::Source>>,
@@ -43,9 +43,9 @@ impl<L: Loads, N: Naming<L, L::Source>> Model for Registry<L, N> {
     ghost use Rattle.registry_core.specs.Stored.{shown};
     ghost use Rattle.registry_core.specs.Kept.{IsKept};
 
-    ghost view = { λ r. record { slots = r.slots.items; verdicts = shown r.verdicts.items; history = r.history.items } };
+    ghost view = { λ r. record { slots = r.slots.items; verdicts = shown r.verdicts.items; history = r.history.items; open_claims = r.book.total } };
 
-    ghost invariant = { λ r. IsKept L.Loads N.Naming r.all.value (record { slots = r.slots.items; verdicts = shown r.verdicts.items; history = r.history.items }) r.fronts.items (vec_capacity r.history) r.book.total };
+    ghost invariant = { λ r. IsKept L.Loads N.Naming r.all.value (record { slots = r.slots.items; verdicts = shown r.verdicts.items; history = r.history.items; open_claims = r.book.total }) r.fronts.items (vec_capacity r.history) };
 }
 
 impl<L: Loads, N: Naming<L, L::Source>> Registry<L, N> {
@@ -63,6 +63,7 @@ impl<L: Loads, N: Naming<L, L::Source>> Registry<L, N> {
         ensures slots { IfOk result (λ r. r.0.slots ≡ replicate (module_count N.Naming.own) Slot.Waiting) }
         ensures verdicts { IfOk result (λ r. r.0.verdicts ≡ replicate (module_count N.Naming.own) None) }
         ensures history { IfOk result (λ r. r.0.history ≡ []) }
+        ensures book { IfOk result (λ r. r.0.open_claims ≡ 0) }
         ensures parts { IfOk result (λ r. r.1.parts ≡ N.parts) }
         ensures amount { IfOk result (λ r. r.1.amount ≡ 0) }
     {
@@ -301,6 +302,3 @@ fn decision(refused: bool) -> EventKind
         EventKind::Publish
     }
 }
-
-#[cfg(test)]
-mod tests;

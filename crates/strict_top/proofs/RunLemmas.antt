@@ -1,5 +1,6 @@
 -- What the answers of a run tell, from what was done with its report.
-use Rattle.std.proofs.Common.{◌≡◌, ◌≢◌, ℕ, true, false, Option, Some, None, List, map, refl, sym, ap, subst, take}
+use Rattle.std.specs.Prelude.{if◌then◌else◌, ◌↔◌}
+use Rattle.std.proofs.Common.{◌≡◌, ◌≢◌, ◌∙◌, Bool, ℕ, true, false, Option, Some, None, List, map, refl, sym, ap, subst, take}
 use Rattle.outside.specs.Bytes.{Appends}
 use Rattle.outside.specs.Faults.{HasRisen}
 use Rattle.outside.specs.Files.{Told}
@@ -81,3 +82,24 @@ pub writes_memory : (words : List (List ℕ)) (told : List ℕ → Told) (report
     answer ≡ OutOfMemory → (now ≡ before) × WritesFront words told old new
 writes_memory words told report old new before now answer is writes answered =
     let w = subst (Writes report old new before now) answered writes in (w.1, front_of_report words told report old new is w.0)
+
+-- ---- which words
+
+-- the status of a report on modules
+not_bad : (b : Bool) → (if b then Refused else Done) ≡ BadWords → ⊥
+not_bad true e = cc
+not_bad false e = cc
+
+named_report : (named : Option (List ℕ)) (told : List ℕ → Told) (report : Report) → IsReportNamed named told report → (report.status ≡ BadWords) ↔ (named ≡ None)
+named_report None told report is = (λ e. refl, λ e. ap (λ (r : Report). r.status) is)
+named_report (Some dir) told report is = (λ e. absurd (by (is_too_large is.0) is.2 e), λ e. absurd cc)
+  where
+    by : (b : Bool) → IsReportBy b is.0 report → report.status ≡ BadWords → ⊥
+    by true h e = let s : TooLarge ≡ BadWords = sym (ap (λ (r : Report). r.status) h) ∙ e in cc (s)
+    by false h e = not_bad _ (sym (ap (λ (r : Report). r.status) h.2) ∙ e)
+
+-- a run that ended has answered so exactly where the words name no directory
+pub bad_words_only : (words : List (List ℕ)) (told : List ℕ → Told) (old new : Option (List ℕ)) (answer : Status) → WritesReport words told old new answer → (answer ≡ BadWords) ↔ (directory_of words ≡ None)
+bad_words_only words told old new answer w =
+    let both = named_report (directory_of words) told w.report w.is_report in
+    (λ e. both.0 (sym w.answered ∙ e), λ e. w.answered ∙ both.1 e)

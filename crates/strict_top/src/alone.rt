@@ -29,6 +29,7 @@ pub(crate) fn decide_alone<L: Loads>(
     all: Sources<L::Source>,
     loads: &L,
 ) -> Result<World<L>, AllocError>
+    requires { L.is_loadable loads.now all }
     ensures { IfOk result (λ world. IsWhole L.verdict_data L.right L.is_right L.is_refused (Some loads.now) (Some all) world) }
 {
     let all = Arc::new(alloc, all)?;
@@ -47,6 +48,7 @@ fn decide_named<L: Loads, N: Naming<L, L::Source>>(
     requires some { 0 < N.parts }
     requires loads { N.loads ≡ Some loads.now }
     requires sources { N.sources ≡ Some (arc_value all.now) }
+    requires loadable { L.is_loadable loads.now (arc_value all.now) }
     ensures { IfOk result (λ world. IsWorldOf L.Loads N.Naming.own world) }
 {
     let registry = decided_registry::<L, N>(alloc, all, loads, blank)?;
@@ -68,6 +70,7 @@ fn decided_registry<L: Loads, N: Naming<L, L::Source>>(
     requires some { 0 < N.parts }
     requires loads { N.loads ≡ Some loads.now }
     requires sources { N.sources ≡ Some (arc_value all.now) }
+    requires loadable { L.is_loadable loads.now (arc_value all.now) }
     ensures { IfOk result (λ registry. list_all is_decided registry.slots ≡ true) }
 {
     let mut room = Imports::with_room(alloc, all.graph.count())?;
@@ -87,6 +90,7 @@ fn decide_each<L: Loads, N: Naming<L, L::Source>>(
 ) -> Result<(), AllocError>
     requires loads { N.loads ≡ Some loads.now }
     requires sources { N.sources ≡ Some all.now }
+    requires loadable { L.is_loadable loads.now all.now }
     requires part { 0 < share.old.parts }
     requires room { module_count N.Naming.own ≤ room.old.room }
     requires none_claimed { list_any is_claimed registry.old.slots ≡ false }
@@ -137,6 +141,7 @@ fn decide<L: Loads, N: Naming<L, L::Source>>(
 ) -> Result<(), AllocError>
     requires loads { N.loads ≡ Some loads.now }
     requires sources { N.sources ≡ Some all.now }
+    requires loadable { L.is_loadable loads.now all.now }
     requires there { claim.module < module_count N.Naming.own }
     requires slot { slot_at registry.old.slots claim.module ≡ Slot.Claimed claim.loader }
     requires share { 1 ≤ share.old.amount }
@@ -144,7 +149,7 @@ fn decide<L: Loads, N: Naming<L, L::Source>>(
     ensures decided { IfOk result (λ _. IsDecidedAt registry.old.slots registry.new.slots claim.module) }
     ensures parts { share.new.parts ≡ share.old.parts }
 {
-    let Ok(verdict) = loads.load(all, claim.module, imports) else {
+    let Ok(verdict) = loads.load(alloc, all, claim.module, imports) else {
         registry.withdraw(share, claim);
         return Err(AllocError);
     };
@@ -160,6 +165,3 @@ fn decide<L: Loads, N: Naming<L, L::Source>>(
     }
     Ok(())
 }
-
-#[cfg(test)]
-mod tests;

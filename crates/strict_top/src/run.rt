@@ -1,4 +1,4 @@
-ghost use Rattle.std.specs.Prelude.{◌≡◌, ◌≢◌, ◌≤◌, ◌⊎◌, IfOk, length, map, string_bytes};
+ghost use Rattle.std.specs.Prelude.{◌≡◌, ◌≢◌, ◌≤◌, ◌⊎◌, ◌↔◌, None, IfOk, length, map, string_bytes};
 ghost use Rattle.std.specs.List.{list_any};
 ghost use Rattle.std.specs.Option.{ForSome};
 ghost use Rattle.outside.specs.Bytes.{Appends};
@@ -7,6 +7,7 @@ ghost use Rattle.module_load.specs.Folders.{file_of};
 ghost use Rattle.module_load.specs.Right.{is_refused};
 ghost use Rattle.strict_top.specs.Reports.{Report, bad_words, too_large, report_of};
 ghost use Rattle.strict_top.specs.Runs.{HasEnded, IsReport, IsTold, OneReport, WritesFront, WritesReport};
+ghost use Rattle.strict_top.specs.Words.{directory_of};
 ghost use Rattle.strict_top.specs.Steps.{AreDecided, Writes, paired};
 
 use crate::alone::decide_alone;
@@ -51,6 +52,10 @@ pub fn run_one<F: Folder, S: Sink>(
         → WritesReport (map string_bytes words.now) (F.told folder.old) (S.written sink.old) (S.written sink.new) result }
     ensures ended_faultless { HasEnded result
         → (F.faults folder.new ≡ F.faults folder.old) × (S.faults sink.new ≡ S.faults sink.old) }
+
+    // Words that name no directory: the folder isn't called, and a run that ends answers `BadWords` there and nowhere else.
+    ensures no_directory { directory_of (map string_bytes words.now) ≡ None → folder.new ≡ folder.old }
+    ensures bad_words { HasEnded result → (result ≡ Status.BadWords) ↔ (directory_of (map string_bytes words.now) ≡ None) }
 
     // The folder is too large, and the sink isn't called.
     ensures too_large { result ≡ Status.TooLarge
@@ -113,7 +118,7 @@ fn decide_files(alloc: Global, files: &[ModuleFile]) -> Result<World<StrictPytho
     ensures { IfOk result (λ world. AreDecided (map file_of files.now) world) }
 {
     let all = sources_of(alloc, files)?;
-    decide_alone(alloc, all, &StrictPython { alloc })
+    decide_alone(alloc, all, &StrictPython)
 }
 
 /// Writes the report on the modules of these files, of which this is decided.
@@ -161,6 +166,3 @@ fn some_refused(world: &World<StrictPython>, count: u32) -> bool
     }
     false
 }
-
-#[cfg(test)]
-mod tests;

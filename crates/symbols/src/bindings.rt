@@ -59,8 +59,14 @@ fn put_statement(
             put_block(body.as_slice(), alloc, all)?;
             put_clauses(clauses.as_slice(), line, alloc, all)
         }
-        StmtKind::Def(function) => put_name(alloc, line, BindingKind::Def, &function.name, all),
-        StmtKind::Class(class) => put_name(alloc, line, BindingKind::Class, &class.name, all),
+        StmtKind::Def(function) => put_name(
+            alloc,
+            line,
+            BindingKind::Def,
+            &function.get().name,
+            all,
+        ),
+        StmtKind::Class(class) => put_name(alloc, line, BindingKind::Class, &class.get().name, all),
         _ => Ok(()),
     }
 }

@@ -87,7 +87,7 @@ fn put_in_class(alloc: Global, statement: &Stmt, lines: &mut Lines) -> Result<()
 {
     match &statement.kind {
         StmtKind::Class(class) => {
-            let members = members_of(alloc, class)?;
+            let members = members_of(alloc, class.get())?;
             lines.append(members_again(alloc, members.as_slice())?)
         }
         _ => Ok(()),
@@ -118,7 +118,13 @@ fn put_member(alloc: Global, statement: &Stmt, all: &mut Bindings) -> Result<(),
     match &statement.kind {
         StmtKind::Annotate(target, _, _) => put_field(alloc, statement.line, target, all),
         StmtKind::Def(method) => {
-            put_name(alloc, statement.line, BindingKind::Def, &method.name, all)
+            put_name(
+                alloc,
+                statement.line,
+                BindingKind::Def,
+                &method.get().name,
+                all,
+            )
         }
         _ => Ok(()),
     }

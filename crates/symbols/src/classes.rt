@@ -44,8 +44,8 @@ fn classes_in(
     let mut all = ClassTable::new(alloc);
     for statement in scope {
         if let StmtKind::Class(class) = &statement.kind {
-            let found = found_class(alloc, outer, &all, statement.line, class)?;
-            all = all.with(&class.name, found)?;
+            let found = found_class(alloc, outer, &all, statement.line, class.get())?;
+            all = all.with(&class.get().name, found)?;
         }
     }
     Ok(all.into_items())
@@ -197,7 +197,7 @@ fn add_method<'a>(statement: &'a Stmt, names: &mut Names<'a>) -> Result<(), Allo
 {
     match &statement.kind {
         StmtKind::Def(method) => {
-            names.add(&method.name)?;
+            names.add(&method.get().name)?;
             Ok(())
         }
         _ => Ok(()),
@@ -222,7 +222,7 @@ fn add_statement_init<'a>(
     ensures { OnOk result (names.new ≡ with_names names.old (spec.in_init (statement_of statement.now))) }
 {
     match &statement.kind {
-        StmtKind::Def(method) => add_init(alloc, method, names),
+        StmtKind::Def(method) => add_init(alloc, method.get(), names),
         _ => Ok(()),
     }
 }
@@ -279,7 +279,7 @@ fn add_attribute<'a>(target: &'a Target, names: &mut Names<'a>) -> Result<(), Al
 {
     match target {
         Target::Attr(e, name) => {
-            if is_self(e) {
+            if is_self(e.get()) {
                 names.add(name)?;
             }
             Ok(())

@@ -42,7 +42,7 @@ fn put_functions<'a>(
     ensures { OnOk result (located all.new.items ≡ located all.old.items ++ spec.functions_of (statement_of statement.now)) }
 {
     match &statement.kind {
-        StmtKind::Class(class) => put_methods(alloc, class, all),
+        StmtKind::Class(class) => put_methods(alloc, class.get(), all),
         _ => put_def(statement, all),
     }
 }
@@ -74,7 +74,7 @@ fn put_def<'a>(statement: &'a Stmt, all: &mut Vec<FunctionAt<'a>>) -> Result<(),
         StmtKind::Def(function) => {
             all.push(FunctionAt {
                 line: statement.line,
-                function,
+                function: function.get(),
             })?;
             Ok(())
         }

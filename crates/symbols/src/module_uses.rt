@@ -12,7 +12,7 @@ use crate::context::{Context, Statics};
 use crate::names::Names;
 use crate::resolved::ModuleKind;
 use crate::static_use::StaticUses;
-use crate::uses::{put_any, put_uses};
+use crate::uses::{put_any, put_uses, put_value};
 use py_tree::expression::{Expr, Param, Target};
 use py_tree::statement::{Branch, ClassDef, Clause, Function, Stmt, StmtKind};
 use std::alloc::{AllocError, Global};
@@ -77,8 +77,8 @@ fn put_statement(
         StmtKind::Eval(e) => put_uses(e, line, context, all),
         StmtKind::Assign(target, e) => put_pair(target, e, line, context, all),
         StmtKind::Annotate(target, kind, value) => {
-            put_pair(target, kind, line, context, all)?;
-            put_any(value, line, context, all)
+            put_pair(target, kind.get(), line, context, all)?;
+            put_value(value, line, context, all)
         }
         StmtKind::Augment(target, _, e) => put_pair(target, e, line, context, all),
         StmtKind::If { branches, orelse } => {
@@ -90,15 +90,15 @@ fn put_statement(
             put_block(body.as_slice(), alloc, context, all)
         }
         StmtKind::For(target, e, body) => {
-            put_pair(target, e, line, context, all)?;
+            put_pair(target, e.get(), line, context, all)?;
             put_block(body.as_slice(), alloc, context, all)
         }
         StmtKind::Try(body, clauses) => {
             put_block(body.as_slice(), alloc, context, all)?;
             put_clauses(clauses.as_slice(), line, alloc, context, all)
         }
-        StmtKind::Def(function) => put_function(function, line, alloc, context, all),
-        StmtKind::Class(class) => put_class(class, line, alloc, context, all),
+        StmtKind::Def(function) => put_function(function.get(), line, alloc, context, all),
+        StmtKind::Class(class) => put_class(class.get(), line, alloc, context, all),
         _ => Ok(()),
     }
 }
@@ -216,10 +216,10 @@ fn put_target(
     ensures { OnOk result (all.new ≡ all.old ++ spec.target_uses (context_of context.now) line (target_of target.now)) }
 {
     match target {
-        Target::Attr(e, _) => put_uses(e, line, context, all),
+        Target::Attr(e, _) => put_uses(e.get(), line, context, all),
         Target::Index(e, i) => {
-            put_uses(e, line, context, all)?;
-            put_uses(i, line, context, all)
+            put_uses(e.get(), line, context, all)?;
+            put_uses(i.get(), line, context, all)
         }
         _ => Ok(()),
     }

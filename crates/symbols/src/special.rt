@@ -6,7 +6,8 @@ ghost use Rattle.symbols.specs.SpecialNames.{all_special_in, arguments_special, 
 
 use crate::context::{Context, Use};
 use crate::words::is_word;
-use py_tree::expression::{Expr, Keyword, Pair};
+use py_tree::expression::{Call, Expr, Keyword, Pair};
+use sqlite_items::Boxed;
 
 /// Whether a name stands in the expression that may not stand there.
 #[cycle(special)]
@@ -42,9 +43,10 @@ pub(crate) fn is_faulty(e: &Expr, context: &Context<'_>, around: Use) -> bool
                 || (!(around.called && context.in_method && is_super(e.get()))
                     && is_faulty(e.get(), context, within))
         }
-        Expr::Call { callee, args, keys } => {
-            let first = argument_use(casts(callee.get(), context), within);
-            is_faulty(callee.get(), context, around.as_callee())
+        Expr::Call(call) => {
+            let Call { callee, args, keys } = call.get();
+            let first = argument_use(casts(callee, context), within);
+            is_faulty(callee, context, around.as_callee())
                 || any_argument_faulty(args.as_slice(), first, context, within)
                 || any_keyword_faulty(keys.as_slice(), context, within)
         }
@@ -112,13 +114,24 @@ pub(crate) fn is_any_faulty(e: &Option<Expr>, context: &Context<'_>, around: Use
     }
 }
 
+/// Whether one stands in the value of an annotated assignment, if it has one.
+pub(crate) fn is_value_faulty(e: &Option<Boxed<Expr>>, context: &Context<'_>, around: Use) -> bool
+    ensures { result ≡ maybe_special (context_of context.now) around (maybe_of e.now) }
+{
+    match e {
+        Some(e) => is_faulty(e.get(), context, around),
+        None => false,
+    }
+}
+
 /// Whether it is `super()`.
 fn is_super(e: &Expr) -> bool
     ensures { result ≡ spec.is_super (expression_of e.now) }
 {
     match e {
-        Expr::Call { callee, args, keys } => {
-            takes_none(args.as_slice(), keys.as_slice()) && is_named_super(callee.get())
+        Expr::Call(call) => {
+            let Call { callee, args, keys } = call.get();
+            takes_none(args.as_slice(), keys.as_slice()) && is_named_super(callee)
         }
         _ => false,
     }

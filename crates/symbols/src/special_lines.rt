@@ -12,7 +12,7 @@ use crate::bindings::bindings_of;
 use crate::bound_names::locals_of;
 use crate::context::{Context, Use};
 use crate::scope::scope_of;
-use crate::special::{is_any_faulty, is_faulty};
+use crate::special::{is_any_faulty, is_faulty, is_value_faulty};
 use crate::special_parts::{
     is_faulty_bind, is_faulty_field, is_faulty_signature, is_faulty_statement,
 };
@@ -118,8 +118,8 @@ fn put_within(
     ensures { OnOk result (lines.new ≡ lines.old ++ within_lines (context_of context.now) (kind_of kind.now)) }
 {
     match kind {
-        StmtKind::Def(function) => put_body(alloc, function, context, lines),
-        StmtKind::Class(class) => put_class_body(alloc, class, context, lines),
+        StmtKind::Def(function) => put_body(alloc, function.get(), context, lines),
+        StmtKind::Class(class) => put_class_body(alloc, class.get(), context, lines),
         _ => Ok(()),
     }
 }
@@ -229,11 +229,11 @@ fn put_member(
     match &statement.kind {
         StmtKind::Annotate(target, kind, value) => {
             let is_fault = is_faulty_field(target, context)
-                || is_faulty(kind, context, Use::typed())
-                || is_any_faulty(value, context, Use::plain());
+                || is_faulty(kind.get(), context, Use::typed())
+                || is_value_faulty(value, context, Use::plain());
             put_line(statement.line, is_fault, lines)
         }
-        StmtKind::Def(method) => put_method(alloc, statement.line, method, context, lines),
+        StmtKind::Def(method) => put_method(alloc, statement.line, method.get(), context, lines),
         _ => Ok(()),
     }
 }

@@ -6,10 +6,10 @@ ghost use Rattle.symbols.specs.SpecialNames.{field_special, forbidden_binding, f
 
 use crate::bindings::{bound_name, is_marker_import};
 use crate::context::{Context, Use};
-use crate::special::{is_any_faulty, is_faulty};
+use crate::special::{is_any_faulty, is_faulty, is_value_faulty};
 use crate::words::is_word;
 use py_tree::expression::{Expr, Param, Target};
-use py_tree::statement::{Import, StmtKind};
+use py_tree::statement::{ClassDef, Function, Import, StmtKind};
 use py_tree::text::Text;
 
 /// Whether a name that may not stand there stands in a statement itself: in no block of it, no condition of an `if` and no clause of a
@@ -28,23 +28,29 @@ pub(crate) fn is_faulty_statement(kind: &StmtKind, context: &Context<'_>) -> boo
         }
         StmtKind::Annotate(target, kind, value) => {
             is_faulty_target(target, context)
-                || is_faulty(kind, context, Use::typed())
-                || is_any_faulty(value, context, Use::plain())
+                || is_faulty(kind.get(), context, Use::typed())
+                || is_value_faulty(value, context, Use::plain())
         }
         StmtKind::Augment(target, _, e) => {
             is_faulty_target(target, context) || is_faulty(e, context, Use::plain())
         }
         StmtKind::While(test, _) => is_faulty(test, context, Use::plain()),
         StmtKind::For(target, e, _) => {
-            is_faulty_target(target, context) || is_faulty(e, context, Use::plain())
+            is_faulty_target(target, context) || is_faulty(e.get(), context, Use::plain())
         }
         StmtKind::Def(function) => {
-            context.forbids_binding(&function.name)
-                || is_faulty_signature(function.params.as_slice(), &function.result, context)
+            let Function {
+                name,
+                params,
+                result: annotation,
+                ..
+            } = function.get();
+            context.forbids_binding(name)
+                || is_faulty_signature(params.as_slice(), annotation, context)
         }
         StmtKind::Class(class) => {
-            context.forbids_binding(&class.name)
-                || is_any_faulty(&class.base, context, Use::plain())
+            let ClassDef { name, base, .. } = class.get();
+            context.forbids_binding(name) || is_any_faulty(base, context, Use::plain())
         }
         _ => false,
     }
@@ -86,10 +92,10 @@ fn is_faulty_target(target: &Target, context: &Context<'_>) -> bool
     match target {
         Target::Name(name) => context.forbids_binding(name),
         Target::Attr(e, name) => {
-            context.forbids_target(name) || is_faulty(e, context, Use::plain())
+            context.forbids_target(name) || is_faulty(e.get(), context, Use::plain())
         }
         Target::Index(e, i) => {
-            is_faulty(e, context, Use::plain()) || is_faulty(i, context, Use::plain())
+            is_faulty(e.get(), context, Use::plain()) || is_faulty(i.get(), context, Use::plain())
         }
         Target::Names(names) => any_name_faulty(names.as_slice(), context),
     }

@@ -6,7 +6,8 @@ ghost use Rattle.symbols.specs.StaticUses.{maybe_uses, use_at, uses, uses_in_all
 use crate::binding::StaticName;
 use crate::context::Context;
 use crate::static_use::{StaticUse, StaticUses};
-use py_tree::expression::{Expr, Keyword, Pair};
+use py_tree::expression::{Call, Expr, Keyword, Pair};
+use sqlite_items::Boxed;
 use std::alloc::AllocError;
 
 /// Puts the uses of static names in an expression.
@@ -44,8 +45,9 @@ pub(crate) fn put_uses(
             put_uses(test.get(), line, context, all)?;
             put_uses(no.get(), line, context, all)
         }
-        Expr::Call { callee, args, keys } => {
-            put_uses(callee.get(), line, context, all)?;
+        Expr::Call(call) => {
+            let Call { callee, args, keys } = call.get();
+            put_uses(callee, line, context, all)?;
             put_all(args.as_slice(), line, context, all)?;
             put_keywords(keys.as_slice(), line, context, all)
         }
@@ -110,6 +112,21 @@ pub(crate) fn put_any(
 {
     match e {
         Some(e) => put_uses(e, line, context, all),
+        None => Ok(()),
+    }
+}
+
+/// Puts those in the value of an annotated assignment, if it has one.
+pub(crate) fn put_value(
+    e: &Option<Boxed<Expr>>,
+    line: u32,
+    context: &Context<'_>,
+    all: &mut StaticUses,
+) -> Result<(), AllocError>
+    ensures { OnOk result (all.new ≡ all.old ++ maybe_uses (context_of context.now) line (maybe_of e.now)) }
+{
+    match e {
+        Some(e) => put_uses(e.get(), line, context, all),
         None => Ok(()),
     }
 }

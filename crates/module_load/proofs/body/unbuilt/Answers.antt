@@ -1,4 +1,4 @@
-use Rattle.std.proofs.Common.{◌≡◌, List, map, sym, ap, ◌∙◌}
+use Rattle.std.proofs.Common.{List, map, sym, ap, ◌∙◌}
 use Rattle.std.specs.List.{find}
 use Rattle.py_tree.specs.Syntax.{Statement}
 use Rattle.py_tree.specs.Joined.{statement_of}

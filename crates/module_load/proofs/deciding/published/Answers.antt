@@ -1,4 +1,3 @@
-use Rattle.std.proofs.Common.{◌≡◌}
 use Rattle.std.proofs.lemmas.Result.{err_from_is_err_and}
 use Rattle.module_load.proofs.Decided.{body_passes, import_found, imports_pass, names_pass, outer_is, publish, spent_found, unbuilt_found, unnamed}
 use Rattle.module_load.proofs.deciding.published.Goals as goal

@@ -1,23 +1,18 @@
-use Rattle.std.proofs.Common.{◌≡◌, rules}
+-- The place is a number of a module.
+use Rattle.std.proofs.Common.{◌≡◌, Some, sym, ◌∙◌, arith}
 use Rattle.std.specs.List.{position}
 use Rattle.std.specs.Str.{bytes_eq}
-use Rattle.std.proofs.lemmas.Iterator.{YieldsList-from_slice}
-use Rattle.std.proofs.lemmas.Iterator.Search.{position_from_yields_List}
-use borrow.Author.Tests.{tests}
+use Rattle.std.proofs.lemmas.List.{length-map}
 use Rattle.module_load.specs.declared.source.Source.{Source}
-use Rattle.module_load.proofs.Folders.{number_among}
+use Rattle.module_load.specs.Folders.{names_of}
+use Rattle.module_load.proofs.NamePlaces.{found_at}
 use Rattle.module_load.proofs.folder.number_of.Goals as goal
 
-pub returns-in_err-place : goal.returns-in_err-place
-returns-in_err-place c =
-    let found : c.position.result ≡ position (λ (s : Source). bytes_eq c.args.name.now s.name) c.args.list.now =
-    position_from_yields_List (λ (s : Source). bytes_eq c.args.name.now s.name) _ _ c.position.result c.position.ensures.ran (YieldsList-from_slice c.args.list.now cc) (λ x b q k. search (rules, tests)) in
-    let among = number_among c.args.name.now c.args.list.now in
-    cc (c.from_residual.ensures, c.in_err-place.was)
+pub overflow_cast-result : goal.overflow_cast-result
+overflow_cast-result c =
+    let names = names_of c.args.list.now in
+    let at : position (bytes_eq c.args.name.now) names ≡ Some c.in-Some.place = sym (c.requires.places c.args.name.now) ∙ sym c.get.ensures ∙ c.in-Some.is in
+    omega (arith, (found_at (bytes_eq c.args.name.now) names c.in-Some.place at).0, length-map c.args.list.now (λ (s : Source). s.name), c.requires.few)
 
-pub returns : goal.returns
-returns c =
-    let found : c.position.result ≡ position (λ (s : Source). bytes_eq c.args.name.now s.name) c.args.list.now =
-    position_from_yields_List (λ (s : Source). bytes_eq c.args.name.now s.name) _ _ c.position.result c.position.ensures.ran (YieldsList-from_slice c.args.list.now cc) (λ x b q k. search (rules, tests)) in
-    let among = number_among c.args.name.now c.args.list.now in
-    cc (c.in_ok-place.was)
+pub returns-in-Some : goal.returns-in-Some
+returns-in-Some c = sym c.in-Some.is ∙ c.get.ensures ∙ c.requires.places c.args.name.now

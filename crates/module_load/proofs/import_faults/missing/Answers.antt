@@ -19,6 +19,6 @@ loop-import-preserved c =
     let name = c.import-item.result.name in
     let globals = c.args.globals.now in
     let faults = λ (i : Import). unless (is_some (global_named i.name globals)) (fault c.args.line NoSuchName) in
-    let is_there : c.is_some-is_there.result ≡ is_some (global_named name globals) = c.is_some-is_there.ensures ∙ same_there c.global_named.result ∙ ap is_some c.global_named.ensures in
+    let is_there : c.is_some-is_there.result ≡ is_some (global_named name globals) = c.is_some-is_there.ensures ∙ same_there c.named.result ∙ ap is_some c.named.ensures in
     let here = subst (λ there. IsFirstOf (unless there (fault c.args.line NoSuchName)) c.fault_unless.result) is_there c.fault_unless.ensures in
     rw c.earlier-first.ensures (first_with faults c.args.names.now c.loop-import.import-index c.import-item.result c.loop-import.first c.fault_unless.result c.loop-import-test.true c.import-item.is c.loop-import.invariant here)

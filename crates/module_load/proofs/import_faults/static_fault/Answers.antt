@@ -1,5 +1,5 @@
 -- One import on.
-use Rattle.std.proofs.Common.{subst, is_some}
+use Rattle.std.proofs.Common.{subst}
 use Rattle.py_tree.specs.declared.code.Code.TheVariants.{NoSuchName}
 use Rattle.py_tree.specs.declared.statement.Import.{Import}
 use Rattle.symbols.specs.FirstFaults.{IsFirstOf}

@@ -17,6 +17,6 @@ decide_alone-requires-sync-L-Source c κs = search (source_sync, param_sync, arg
 pub returns : goal.returns
 returns c =
     let files = map file_of c.args.files.now in
-    let loads : StrictPython = record { alloc = c.args.alloc } in
+    let loads : StrictPython = record {} in
     IfOk-weaker c.decide_alone.result (λ verdicts. IsPythonWorld loads c.in_ok-all.all verdicts) (λ verdicts. AreDecided files verdicts)
     (λ verdicts whole. world_of_files files loads c.in_ok-all.all verdicts c.in_ok-all.ensures whole) c.decide_alone.ensures

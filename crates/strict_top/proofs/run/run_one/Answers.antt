@@ -2,7 +2,7 @@ use Rattle.std.proofs.Common.{map, refl, inr, string_bytes, subst}
 use Rattle.module_load.specs.Folders.{file_of}
 use Rattle.strict_top.specs.Reports.{report_of, bad_words, too_large}
 use Rattle.strict_top.specs.Steps.{IsFound, paired}
-use Rattle.strict_top.proofs.RunLemmas.{exactly, report_of_bad_words, report_of_read, report_of_too_large, writes_exactly, writes_ended, writes_fault, writes_memory}
+use Rattle.strict_top.proofs.RunLemmas.{bad_words_only, exactly, report_of_bad_words, report_of_read, report_of_too_large, writes_exactly, writes_ended, writes_fault, writes_memory}
 use Rattle.strict_top.proofs.Writing.{appends_nothing}
 use Rattle.strict_top.proofs.run.run_one.Goals as goal
 
@@ -102,3 +102,14 @@ returns-clause-out_of_memory g c =
     let is_mine = report_of_read words told c.in-Some.dir.now c.in-Ok-Modules.files.items files c.deref.result.now verdicts c.in-Some.ensures
     (subst (IsFound (told c.in-Some.dir.now)) c.in-Ok-Modules.field-0-is c.in-Ok-Modules.ensures.found) c.deref-2.ensures.value c.deref.ensures.value c.in-Ok.ensures in
     λ is. let memory = writes_memory words _ mine _ _ _ _ _ is_mine c.report_world.ensures is in (c.in-Ok-Modules.ensures.count, memory.0, inr memory.1)
+
+-- ---- which words
+
+pub returns-in_default-clause-bad_words : goal.returns-in_default-clause-bad_words
+returns-in_default-clause-bad_words g c = λ ended. bad_words_only (map string_bytes c.args.words.now) _ _ _ _ (returns-in_default-clause-ended g c ended)
+
+pub returns-in-Ok-TooLarge-clause-bad_words : goal.returns-in-Ok-TooLarge-clause-bad_words
+returns-in-Ok-TooLarge-clause-bad_words g c = λ ended. bad_words_only (map string_bytes c.args.words.now) _ _ _ _ (returns-in-Ok-TooLarge-clause-ended g c ended)
+
+pub returns-clause-bad_words : goal.returns-clause-bad_words
+returns-clause-bad_words g c = λ ended. bad_words_only (map string_bytes c.args.words.now) _ _ _ _ (returns-clause-ended g c ended)

@@ -10,7 +10,7 @@ use Rattle.registry_core.proofs.registry.Registry.history.Goals as goal
 pub returns-clause-right : goal.returns-clause-right
 returns-clause-right g c =
     let i = c.self.inside in
-    subst (IsRightView g.L.Loads g.N.Naming) c.self.view_is (view_kept g.L.Loads g.N.Naming i.all.value _ i.fronts.items (vec_capacity i.history) i.book.total c.self.invariant)
+    subst (IsRightView g.L.Loads g.N.Naming) c.self.view_is (view_kept g.L.Loads g.N.Naming i.all.value _ i.fronts.items (vec_capacity i.history) c.self.invariant)
 
 pub returns-clause-once : goal.returns-clause-once
 returns-clause-once g c =
