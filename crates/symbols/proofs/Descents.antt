@@ -1,6 +1,8 @@
 -- Classes from one without a base on, each the base of the next.
 use Rattle.std.proofs.Common.{◌≡◌, ◌∙◌, ◌+◌, ◌-◌, ◌<◌, ◌≤◌, ◌||◌, ◌⊎◌, inl, inr, ℕ, zero, suc, Bool, true, false, List, [], ◌∷◌, ◌++◌, map, length, take, Option, Some, None, refl, sym, ap, subst, arith, nat_lt, append_assoc, not, zero-add}
-use Rattle.std.proofs.lemmas.List.{append-nil, take-nil}
+use Rattle.std.proofs.Math.Seq.{take-nil}
+use Rattle.std.proofs.lemmas.Bool.{lt-ltb}
+use Rattle.std.proofs.lemmas.List.{append-nil, map-append}
 use Rattle.std.specs.Prelude.{slice_get, if◌then◌else◌}
 use Rattle.std.specs.List.{flat_map, list_any, filter}
 use Rattle.std.specs.Str.{bytes_eq}
@@ -88,7 +90,7 @@ times-among name (x ∷ xs) = by (bytes_eq name x) refl (times-among name xs)
     by true e rest = rw e (positive (times name xs))
       where
         positive : (n : ℕ) → nat_lt 0 (1 + n) ≡ true
-        positive n = let more : 1 + n ≡ suc n = omega arith in rw more refl
+        positive n = lt-ltb 0 (1 + n) (omega arith)
     by false e rest = rw e (ap (nat_lt 0) (zero-add (times name xs)) ∙ rest)
 
 or-middle : (a b c d : Bool) → ((a || b) || (c || d)) ≡ ((a || c) || (b || d))
@@ -266,3 +268,72 @@ times-push name f (q ∷ ps) p =
     let here = times-append name (f q) (flat_map f (ps ++ p ∷ [])) in
     let there = times-append name (f q) (flat_map f ps) in
     omega (arith, rest, here, there)
+
+-- ---- up and down by one
+
+standing_rank : (p : BasePlace) (n : ℕ) → earlier_bound p ≤ n → rank (standing p) < n + 2
+standing_rank place.None n h = omega arith
+standing_rank (place.Earlier m) n h = omega (arith, h)
+standing_rank (place.Imported m) n h = omega arith
+standing_rank (place.Exception kind) n h = omega arith
+standing_rank place.Bad n h = omega arith
+
+rank_own : (all : FoundClasses) (n : ℕ) (o : Option OwnClass) → slice_get all.own n ≡ o → rank (base_of_own o) < n + 2
+rank_own all n None e = omega arith
+rank_own all n (Some c) e = standing_rank c.base n (all.placed n c e).0
+
+pub rank_above : (all : FoundClasses) (p : BasePlace) → is_class p ≡ true → rank (above all p) < rank p
+rank_above all place.None h = cc (h)
+rank_above all (place.Earlier n) h = rank_own all n (slice_get all.own n) refl
+rank_above all (place.Imported n) h = omega arith
+rank_above all (place.Exception kind) h = omega arith
+rank_above all place.Bad h = omega arith
+
+places-push : (steps init : List Step) (s : Step) → steps ≡ init ++ s ∷ [] → places_of steps ≡ places_of init ++ s.place ∷ []
+places-push steps init s e = ap places_of e ∙ map-append (λ (x : Step). x.place) init (s ∷ [])
+
+pub descends-left : (all : FoundClasses) (steps init : List Step) (s : Step) → steps ≡ init ++ s ∷ [] → Descends all place.None (places_of steps) → Descends all place.None (places_of init)
+descends-left all steps init s e d = descends-pop all (places_of init) place.None s.place (subst (Descends all place.None) (places-push steps init s e) d)
+
+pub descends-entered : (all : FoundClasses) (steps init : List Step) (s : Step) → steps ≡ init ++ s ∷ [] → Descends all place.None (places_of init) → above all s.place ≡ last_or place.None (places_of init) → Descends all place.None (places_of steps)
+descends-entered all steps init s e d f = subst (Descends all place.None) (sym (places-push steps init s e)) (descends-push all (places_of init) place.None s.place d f)
+
+pub last-entered : (steps init : List Step) (s : Step) → steps ≡ init ++ s ∷ [] → last_or place.None (places_of steps) ≡ s.place
+last-entered steps init s e = ap (last_or place.None) (places-push steps init s e) ∙ last_or-push (places_of init) place.None s.place
+
+pub count-left : (f : BasePlace → List Text) (steps init : List Step) (s : Step) (name : Text) (names : List Text) (old now : ℕ) → steps ≡ init ++ s ∷ [] → old ≡ times name (flat_map f (places_of steps)) → names ≡ f s.place → now ≡ old - times name names → now ≡ times name (flat_map f (places_of init))
+count-left f steps init s name names old now e held is less =
+    let a : old ≡ times name (flat_map f (places_of init)) + times name (f s.place) = held ∙ (ap (λ ps. times name (flat_map f ps)) (places-push steps init s e) ∙ times-push name f (places_of init) s.place) in
+    let b : times name names ≡ times name (f s.place) = ap (times name) is in
+    omega (arith, a, b, less)
+
+pub count-entered : (f : BasePlace → List Text) (steps init : List Step) (s : Step) (name : Text) (names : List Text) (old now : ℕ) → steps ≡ init ++ s ∷ [] → old ≡ times name (flat_map f (places_of init)) → names ≡ f s.place → now ≡ old + times name names → now ≡ times name (flat_map f (places_of steps))
+count-entered f steps init s name names old now e held is more =
+    let a : times name (flat_map f (places_of steps)) ≡ times name (flat_map f (places_of init)) + times name (f s.place) = ap (λ ps. times name (flat_map f ps)) (places-push steps init s e) ∙ times-push name f (places_of init) s.place in
+    let b : times name names ≡ times name (f s.place) = ap (times name) is in
+    omega (arith, a, b, held, more)
+
+-- a name is counted where it is among the names of the class and its bases
+slots_counted : (all : FoundClasses) (ps : List BasePlace) (p : BasePlace) (name : Text) (n : ℕ) → Descends all place.None ps → above all p ≡ last_or place.None ps → n ≡ times name (flat_map (slots_at all) ps) + times name (slots_at all p) → nat_lt 0 n ≡ among name (base_slots (kind_of all p))
+slots_counted all ps p name n d e is =
+    ap (nat_lt 0) (is ∙ sym (times-append name (flat_map (slots_at all) ps) (slots_at all p)))
+    ∙ (times-among name (flat_map (slots_at all) ps ++ slots_at all p)
+    ∙ (list_any-append (bytes_eq name) (flat_map (slots_at all) ps) (slots_at all p)
+    ∙ (ap (λ b. b || among name (slots_at all p)) (sym (slots_along all ps place.None (bytes_eq name) d) ∙ ap (λ q. among name (base_slots (kind_of all q))) (sym e))
+    ∙ sym ((extends all p).slots (bytes_eq name)))))
+
+methods_counted : (all : FoundClasses) (ps : List BasePlace) (p : BasePlace) (name : Text) (n : ℕ) → Descends all place.None ps → above all p ≡ last_or place.None ps → n ≡ times name (flat_map (methods_at all) ps) + times name (methods_at all p) → nat_lt 0 n ≡ among name (base_methods (kind_of all p))
+methods_counted all ps p name n d e is =
+    ap (nat_lt 0) (is ∙ sym (times-append name (flat_map (methods_at all) ps) (methods_at all p)))
+    ∙ (times-among name (flat_map (methods_at all) ps ++ methods_at all p)
+    ∙ (list_any-append (bytes_eq name) (flat_map (methods_at all) ps) (methods_at all p)
+    ∙ (ap (λ b. b || among name (methods_at all p)) (sym (methods_along all ps place.None (bytes_eq name) d) ∙ ap (λ q. among name (base_methods (kind_of all q))) (sym e))
+    ∙ sym ((extends all p).methods (bytes_eq name)))))
+
+pub clash-entered : (all : FoundClasses) (steps : List Step) (p : BasePlace) (slots methods : Text → ℕ) → Descends all place.None (places_of steps) → Knows all steps → above all p ≡ last_or place.None (places_of steps)
+    → ((name : Text) → slots name ≡ times name (flat_map (slots_at all) (places_of steps)) + times name (slots_at all p))
+    → ((name : Text) → methods name ≡ times name (flat_map (methods_at all) (places_of steps)) + times name (methods_at all p))
+    → ((last_clashes steps || list_any (λ name. nat_lt 0 (methods name)) (slots_at all p)) || list_any (λ name. nat_lt 0 (slots name)) (methods_at all p)) ≡ clash_at all p
+clash-entered all steps p slots methods d k e s m =
+    (λ i. ((last_knows all steps k ∙ ap (clash_at all) (sym e)) i || list_any (λ name. methods_counted all (places_of steps) p name (methods name) d e (m name) i) (slots_at all p)) || list_any (λ name. slots_counted all (places_of steps) p name (slots name) d e (s name) i) (methods_at all p))
+    ∙ clash_step all p

@@ -1,4 +1,4 @@
-ghost use Rattle.std.specs.Prelude.{◌≡◌, ◌<◌, ◌⊎◌, [], codes, ◌∷◌, IfOk, OnOk, IsTrue, ◌↔◌, length, nat_lt};
+ghost use Rattle.std.specs.Prelude.{◌≡◌, ◌<◌, ◌⊎◌, ◌||◌, [], codes, ◌∷◌, IfOk, OnOk, nat_lt};
 ghost use Rattle.std.specs.List.{list_any};
 ghost use Rattle.symbols.specs.Lineages.{Climbs, IsAt, IsLineage, above, clash_at, last_or, methods_at, places_of, slots_at};
 ghost use Rattle.symbols.specs.Lineages as spec;
@@ -112,12 +112,21 @@ impl<'a> Lineage<'a> {
         let methods = self.classes.methods_at(place);
         self.slots.add(slots)?;
         self.methods.add(methods)?;
-        let clashes = last_clashes(self.steps.as_slice())
-            || any_in(slots, &self.methods)
-            || any_in(methods, &self.slots);
+        let clashes = clashes_below(
+            self.steps.as_slice(),
+            any_in(slots, &self.methods),
+            any_in(methods, &self.slots),
+        );
         self.steps.push(Step { place, clashes })?;
         Ok(clashes)
     }
+}
+
+/// Whether a class below these clashes, where some of its slots are methods, or some of its methods are slots.
+fn clashes_below(steps: &[Step], slots: bool, methods: bool) -> bool
+    ensures { result ≡ ((spec.last_clashes steps.now || slots) || methods) }
+{
+    last_clashes(steps) || slots || methods
 }
 
 /// Whether the last class clashes.

@@ -8,7 +8,7 @@ invariant-loop-next l = record {
   classes : l.self.classes ≡ l.fn.self.classes;
   args : l.self.args ≡ l.fn.self.args;
   lineage : IsLineage l.self;
-  climbs : Climbs l.self.classes.now l.place l.climbed.items (last_or NoPlace (places_of l.self.steps.items));
+  climbs : Climbs l.self.classes.now l.fn.place l.climbed.items (last_or NoPlace (places_of l.self.steps.items));
 }
 
 abbrev pub decreases-loop-next : goal.decreases-loop-next
