@@ -142,7 +142,7 @@ any-first_mentions test (x ∷ xs) = by (test x) refl (any-first_mentions test x
     by true e rest = rw e refl
     by false e rest = rw e (any-without test x (first_mentions xs) e ∙ rest)
 
-found_get : (home : ℕ) (others : List ClassKind) (own : List OwnClass) (earlier : List Found) (n : ℕ) (c : OwnClass) → slice_get own n ≡ Some c
+pub found_get : (home : ℕ) (others : List ClassKind) (own : List OwnClass) (earlier : List Found) (n : ℕ) (c : OwnClass) → slice_get own n ≡ Some c
     → slice_get (joined_behind home others earlier own) n ≡ Some (joined home others (earlier ++ take n (joined_behind home others earlier own)) c)
 found_get home others [] earlier n c e = cc (e)
 found_get home others (d ∷ own) earlier zero c e =

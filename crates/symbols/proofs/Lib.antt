@@ -11,3 +11,4 @@ pub mod Places
 pub mod ClassLists
 pub mod ImportedKinds
 pub mod Descents
+pub mod ClassNumbers
