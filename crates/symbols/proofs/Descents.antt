@@ -254,9 +254,9 @@ clash_step all p =
     let y = list_any (λ m. among m bs) om in
     let x : list_any (λ s. among s (base_methods (kind_of all p))) os ≡ (x1 || x2) = (λ i. list_any (λ s. (extends all p).methods (bytes_eq s) i) os) ∙ any-or (λ s. among s bm) (λ s. among s om) os in
     let left : clash_at all p ≡ ((c || y) || (x1 || x2)) =
-        clash_of-any (kind_of all p)
-        ∙ ((extends all p).slots (λ s. among s (base_methods (kind_of all p)))
-        ∙ ((λ i. list_any (λ s. (extends all p).methods (bytes_eq s) i) bs || x i) ∙ ap (λ b. b || (x1 || x2)) (any-or (λ s. among s bm) (λ s. among s om) bs ∙ ap (λ b. c || b) (any-swap bs om))))
+    clash_of-any (kind_of all p)
+    ∙ ((extends all p).slots (λ s. among s (base_methods (kind_of all p)))
+    ∙ ((λ i. list_any (λ s. (extends all p).methods (bytes_eq s) i) bs || x i) ∙ ap (λ b. b || (x1 || x2)) (any-or (λ s. among s bm) (λ s. among s om) bs ∙ ap (λ b. c || b) (any-swap bs om))))
     in
     let right : list_any (λ m. among m (base_slots (kind_of all p))) om ≡ (y || x2) = (λ i. list_any (λ m. (extends all p).slots (bytes_eq m) i) om) ∙ (any-or (λ m. among m bs) (λ m. among m os) om ∙ ap (λ b. y || b) (any-swap om os)) in
     (λ i. (clash_of-any (kind_of all (above all p)) i || x i) || right i) ∙ (sym (in_four c x1 x2 y) ∙ sym left)

@@ -51,7 +51,7 @@ class_stands o name place start b k found at is begin = (
   (
     ap (λ f. class_kind (kind_of_outer f)) (found ∙ at) ∙ ap class_kind is,
     ap (slice_get (kinds_of o.bindings)) (begin ∙ omega arith)
-    ∙ (kinds_at o.bindings place 0 b at (subst (λ q. 0 < length (kinds_in q)) (sym is) (omega arith)) ∙ ap (λ q. slice_get (kinds_in q) 0) is)
+        ∙ (kinds_at o.bindings place 0 b at (subst (λ q. 0 < length (kinds_in q)) (sym is) (omega arith)) ∙ ap (λ q. slice_get (kinds_in q) 0) is),
   ),
 )
 
@@ -74,9 +74,9 @@ member_stands o from name place start inside b cs found at is begin within first
     let c : (x : ModuleClass) × (slice_get cs inside ≡ Some x) = there cs inside within in
     let kind : outer_kind o from ≡ outer.Module cs = ap kind_of_outer (found ∙ at) ∙ is in
     let stands : slice_get (kinds_of o.bindings) (start + inside) ≡ Some (c.0).class =
-        ap (λ n. slice_get (kinds_of o.bindings) (n + inside)) begin
-        ∙ (kinds_at o.bindings place inside b at inside_of
-        ∙ (ap (λ k. slice_get (kinds_in k) inside) is ∙ (slice_get-map (λ (m : ModuleClass). m.class) cs inside ∙ ap (option_map (λ (m : ModuleClass). m.class)) c.1)))
+    ap (λ n. slice_get (kinds_of o.bindings) (n + inside)) begin
+    ∙ (kinds_at o.bindings place inside b at inside_of
+    ∙ (ap (λ k. slice_get (kinds_in k) inside) is ∙ (slice_get-map (λ (m : ModuleClass). m.class) cs inside ∙ ap (option_map (λ (m : ModuleClass). m.class)) c.1)))
     in
     (slice_get_within (kinds_of o.bindings) (start + inside) (c.0).class stands, ((c.0).class, (ap (λ k. class_of_module (module_classes k) name) kind ∙ ap kind_of_member (first ∙ c.1), stands)))
 

@@ -30,3 +30,7 @@ standing p = p
 abbrev pub is_class : BasePlace → Bool
 is_class place.None = false
 is_class p = true
+
+abbrev pub is_bad_place : BasePlace → Bool
+is_bad_place place.Bad = true
+is_bad_place p = false

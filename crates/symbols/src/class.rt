@@ -59,4 +59,11 @@ impl BasePlace {
     {
         !matches!(self, BasePlace::None)
     }
+
+    /// Whether what stands for the base is none.
+    pub(crate) fn is_bad(self) -> bool
+        ensures { result ≡ spec.is_bad_place self }
+    {
+        matches!(self, BasePlace::Bad)
+    }
 }

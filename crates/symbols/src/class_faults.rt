@@ -10,7 +10,6 @@ ghost use Rattle.symbols.specs.Views.{seen};
 
 use crate::binding::{BindingKind, Bindings};
 use crate::bindings::put_name;
-use crate::class::BasePlace;
 use crate::class_list::FoundClasses;
 use crate::class_order::order_of;
 use crate::lineage::Lineage;
@@ -28,7 +27,7 @@ pub(crate) fn bad_lines(alloc: Global, classes: &FoundClasses) -> Result<Lines, 
 {
     let mut lines = Lines::new(alloc);
     for class in classes.own.as_slice() {
-        put_line(class.line, matches!(class.base, BasePlace::Bad), &mut lines)?;
+        put_line(class.line, class.base.is_bad(), &mut lines)?;
     }
     Ok(lines)
 }
@@ -76,22 +75,12 @@ fn clashes_in(
     ensures count { IfOk result (λ flags. length flags.items ≡ length classes.now.own) }
     ensures each { IfOk result (λ flags. (number : ℕ) → number < length classes.now.own → slice_get flags.items number ≡ Some (clash_at classes.now (Earlier number))) }
 {
-    let mut flags = all_false(alloc, classes.own.len())?;
+    let mut flags = vec![in alloc; false; classes.own.len()]?;
     let mut lineage = Lineage::new(alloc, classes, args);
     for number in order {
         flags[*number] = lineage.visit(alloc, *number)?;
     }
     Ok(flags)
-}
-
-fn all_false(alloc: Global, count: usize) -> Result<Vec<bool>, AllocError>
-    ensures { IfOk result (λ all. length all.items ≡ count) }
-{
-    let mut all = Vec::new(alloc);
-    for _ in 0..count {
-        all.push(false)?;
-    }
-    Ok(all)
 }
 
 /// Puts the lines of the second members of one name, of each class.

@@ -47,7 +47,7 @@ fn places_of(alloc: Global, classes: &FoundClasses) -> Result<Vec<usize>, AllocE
 /// How many classes there are at and below each, those of other modules behind those of the module.
 fn sizes_of(alloc: Global, classes: &FoundClasses) -> Result<Vec<usize>, AllocError> {
     let own = classes.own.as_slice();
-    let mut sizes = ones(alloc, own.len().saturating_add(classes.others.len()))?;
+    let mut sizes = vec![in alloc; 1; own.len().saturating_add(classes.others.len())]?;
     for behind in 0..own.len() {
         let number = own.len() - 1 - behind;
         if let Some(base) = base_node(&own[number], own.len()) {
@@ -56,14 +56,6 @@ fn sizes_of(alloc: Global, classes: &FoundClasses) -> Result<Vec<usize>, AllocEr
         }
     }
     Ok(sizes)
-}
-
-fn ones(alloc: Global, count: usize) -> Result<Vec<usize>, AllocError> {
-    let mut all = Vec::new(alloc);
-    for _ in 0..count {
-        all.push(1)?;
-    }
-    Ok(all)
 }
 
 /// The number of the base of a class, where those of other modules have the numbers behind those of the module.

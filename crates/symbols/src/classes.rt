@@ -62,9 +62,7 @@ fn with_statement<'a>(
     ensures behind { IfOk result (λ table. (rest : List Statement) → found_at table ++ classes_behind all.entry.outer (found_at table) rest ≡ found_at all.entry ++ classes_behind all.entry.outer (found_at all.entry) (statement_of statement.now ∷ rest)) }
 {
     match &statement.kind {
-        StmtKind::Class(class) => {
-            with_class(alloc, all, statement.line, class.get())
-        }
+        StmtKind::Class(class) => { with_class(alloc, all, statement.line, class.get()) }
         _ => Ok(all),
     }
 }

@@ -93,7 +93,8 @@ impl<'a> Lineage<'a> {
                 self.steps.push(last)?;
                 return Ok(());
             }
-            self.slots.remove(self.classes.slots_at(last.place, self.args))?;
+            self.slots
+                .remove(self.classes.slots_at(last.place, self.args))?;
             self.methods.remove(self.classes.methods_at(last.place))?;
         }
         Ok(())

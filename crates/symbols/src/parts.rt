@@ -11,8 +11,8 @@ ghost use Rattle.symbols.specs.Views.{seen};
 
 use crate::binding::Binding;
 use crate::bound_names::statics_of;
-use crate::class_list::FoundClasses;
 use crate::class_faults::{bad_lines, clash_lines, put_repeated_members};
+use crate::class_list::FoundClasses;
 use crate::context::{Context, Statics};
 use crate::first_fault::{Faults, first_of, put_faults};
 use crate::functions::{FunctionAt, repeated_params};
@@ -38,7 +38,11 @@ pub(crate) struct Parts<'a> {
 
 impl<'a> Parts<'a> {
     /// The first fault of the module's names.
-    pub fn first_fault(&self, alloc: Global, classes: &FoundClasses) -> Result<Option<Fault>, AllocError>
+    pub fn first_fault(
+        &self,
+        alloc: Global,
+        classes: &FoundClasses,
+    ) -> Result<Option<Fault>, AllocError>
         ensures { IfOk result (λ first. IsFirstOf (faults_of self.now (founds classes.now)) first) }
     {
         let faults = self.faults(alloc, classes)?;
@@ -115,7 +119,11 @@ fn special_under(alloc: Global, statics: &Statics<'_>, scope: &[&Stmt]) -> Resul
 }
 
 /// Puts the faults of bases and of members.
-fn put_class_faults(alloc: Global, classes: &FoundClasses, faults: &mut Faults) -> Result<(), AllocError>
+fn put_class_faults(
+    alloc: Global,
+    classes: &FoundClasses,
+    faults: &mut Faults,
+) -> Result<(), AllocError>
     ensures { OnOk result (faults.new ≡ faults.old ++ class_faults (founds classes.now)) }
 {
     let bad = bad_lines(alloc, classes)?;

@@ -23,5 +23,5 @@ loop-next-preserved c =
       args = c.in_ok-enter.ensures.args ∙ c.loop-next.invariant.args;
       lineage = c.in_ok-enter.ensures.at.lineage;
       climbs = subst (λ (p : BasePlace). Climbs c.enter.new.self.classes.now c.args.place c.pop.new.self.items p) (sym c.in_ok-enter.ensures.at.last)
-      (subst (λ (b : Bor FoundClasses). Climbs b.now c.args.place c.pop.new.self.items c.in-Some.next) (sym c.in_ok-enter.ensures.classes) climbs);
+          (subst (λ (b : Bor FoundClasses). Climbs b.now c.args.place c.pop.new.self.items c.in-Some.next) (sym c.in_ok-enter.ensures.classes) climbs);
     }

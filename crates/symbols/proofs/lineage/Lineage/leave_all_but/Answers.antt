@@ -14,8 +14,7 @@ returns-then-eq-clause-at c =
     let now = c.push.new.self.items in
     let same : now ≡ steps = c.in_ok-push.ensures.items ∙ sym c.in-Some.ensures.items in
     let at : c.in-Some.last.place ≡ c.args.place = search rules in
-    let held = c.loop-last.invariant.lineage in
-    (
+    let held = c.loop-last.invariant.lineage in (
       record {
         descends = subst (λ (xs : List Step). Descends all NoPlace (places_of xs)) (sym same) held.descends;
         slots = λ name. held.slots name ∙ ap (λ (xs : List Step). times name (flat_map (slots_at all) (places_of xs))) (sym same);
