@@ -18,7 +18,7 @@ invariant_of-result c =
       placed = subst (ArePlaced (kinds_of o.bindings)) (sym pushed) (placed-push (kinds_of o.bindings) own c.args.class c.self.invariant.placed placed);
       numbered =
           kept class_name (found_in o own) (found_in o c.push.new.self) (joined o.number (kinds_of o.bindings) (found_in o own) c.args.class) c.args.name.now c.len.result c.self.inside.numbers c.keep.new.self
-          c.requires.named (c.len.ensures ∙ sym (length-joined_behind o.number (kinds_of o.bindings) own [])) (ap (found_in o) pushed ∙ found_in-push o own c.args.class) c.in_ok-keep.ensures c.self.invariant.numbered;
+          c.requires.named (c.len.ensures ∙ sym (length-joined_behind o.number (kinds_of o.bindings) own [])) (ap (found_in o) pushed ∙ found_in-push o own c.args.class) c.in_ok-keep.ensures.found c.self.invariant.numbered;
     }
 
 pub returns-clause-found : goal.returns-clause-found
