@@ -8,3 +8,7 @@ pub mod Trees
 pub mod Arguments
 pub mod OneBinding
 pub mod Places
+pub mod ClassLists
+pub mod ImportedKinds
+pub mod Descents
+pub mod ClassNumbers

@@ -40,11 +40,11 @@ pub bytes_eq-swap : (a b : List ℕ) → bytes_eq a b ≡ bytes_eq b a
 bytes_eq-swap = nat_list_eq_equiv.symm
 
 -- whether a name isn't among these
-abbrev is_new : List (List ℕ) → List ℕ → Bool
+abbrev pub is_new : List (List ℕ) → List ℕ → Bool
 is_new names name = not (among name names)
 
 -- a filter of a filter keeps what passes both
-filter-filter : {X : Type 0} (p q r : X → Bool) (same : (x : X) → (q x && p x) ≡ r x) → (xs : List X) → filter p (filter q xs) ≡ filter r xs
+pub filter-filter : {X : Type 0} (p q r : X → Bool) (same : (x : X) → (q x && p x) ≡ r x) → (xs : List X) → filter p (filter q xs) ≡ filter r xs
 filter-filter p q r same [] = refl
 filter-filter {X} p q r same (x ∷ xs) = by (q x) refl (filter-filter p q r same xs)
   where
@@ -72,7 +72,7 @@ is_new-push : (names : List (List ℕ)) (name other : List ℕ) → (not (bytes_
 is_new-push names name other = not-or (bytes_eq name other) (among other names) (bytes_eq other name) (bytes_eq-swap name other) ∙ ap not (sym (list_any-append (bytes_eq other) names (name ∷ [])))
 
 -- what is put behind these is each new name once
-with_names-is : (more names : List (List ℕ)) → with_names names more ≡ names ++ filter (is_new names) (first_mentions more)
+pub with_names-is : (more names : List (List ℕ)) → with_names names more ≡ names ++ filter (is_new names) (first_mentions more)
 with_names-is [] names = sym (append-nil names)
 with_names-is (name ∷ more) names = by (among name names) refl (with_names-is more)
   where

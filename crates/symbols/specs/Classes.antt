@@ -9,18 +9,29 @@ use Rattle.py_tree.specs.Order.{of_scope}
 use Rattle.py_values.specs.declared.exception.ExcKind.{ExcKind}
 use Rattle.py_values.specs.declared.class_id.ClassId.{ClassId}
 use Rattle.py_values.specs.declared.class_id.ClassId.TheVariants as id
-use Rattle.symbols.specs.declared.class.Base.{Base}
-use Rattle.symbols.specs.declared.class.Base.TheVariants as base
-use Rattle.symbols.specs.declared.class.Class.{Class}
 use Rattle.symbols.specs.declared.class.ClassKind.{ClassKind}
-use Rattle.symbols.specs.declared.class.Found.{Found}
 use Rattle.symbols.specs.declared.outer.Outer.{Outer}
 use Rattle.symbols.specs.declared.outer.OuterBinding.{OuterBinding}
 use Rattle.symbols.specs.declared.outer.OuterKind.{OuterKind}
 use Rattle.symbols.specs.declared.outer.OuterKind.TheVariants as outer
 use Rattle.symbols.specs.declared.outer.ModuleClass.{ModuleClass}
 use Rattle.symbols.specs.Words.{exception_named}
+use Rattle.symbols.specs.BaseKinds as base
+use Rattle.symbols.specs.BaseKinds.{Base}
 use Rattle.symbols.specs.Bindings.{first_mentions}
+
+-- a class with the line of its statement, the class that it is directly below, itself with its bases, and its own methods
+pub record Class : Type 0 where
+  pub name : Text
+  pub line : ℕ
+  pub base : Option ClassId
+  pub kind : ClassKind
+  pub methods : List Text
+
+-- a class, whether what stands for its base is one or not
+pub record Found : Type 0 where
+  pub class : Class
+  pub is_bad : Bool
 
 -- ---- what stands in a class
 
@@ -174,28 +185,37 @@ is_bad b = false
 -- ---- the classes of a module
 
 -- the slots of the base, and then its own, each at its first mention; the methods of the base, and then its own
-abbrev pub kind_below : ClassId → Base → List Statement → ClassKind
-kind_below number b body = record {
+abbrev pub kind_below : ClassId → Base → List Text → List Text → ClassKind
+kind_below number b slots methods = record {
   id = number;
-  slots = first_mentions (base_slots b ++ own_slots body);
-  methods = first_mentions (base_methods b ++ flat_map method_names body);
+  slots = first_mentions (base_slots b ++ slots);
+  methods = first_mentions (base_methods b ++ methods);
 }
 
-abbrev pub class_below : ClassId → Base → ℕ → Text → List Statement → Found
-class_below number b line name body = record {
+abbrev pub class_below : ClassId → Base → ℕ → Text → List Text → List Text → Found
+class_below number b line name slots methods = record {
   class = record {
     name = name;
     line = line;
     base = base_id b;
-    kind = kind_below number b body;
-    methods = first_mentions (flat_map method_names body);
+    kind = kind_below number b slots methods;
+    methods = first_mentions methods;
   };
   is_bad = is_bad b;
 }
 
+abbrev pub name_of : ClassDef → Text
+name_of (x.Classed name base body) = name
+
+abbrev pub written_base : ClassDef → Option Expression
+written_base (x.Classed name base body) = base
+
+abbrev pub body_of : ClassDef → Statements
+body_of (x.Classed name base body) = body
+
 -- the class that stands behind these
 abbrev pub class_behind : Outer → List Found → ℕ → ClassDef → Found
-class_behind o earlier line (x.Classed name base body) = class_below (id.User o.number (length earlier)) (base_of o earlier base) line name (of_scope body)
+class_behind o earlier line (x.Classed name base body) = class_below (id.User o.number (length earlier)) (base_of o earlier base) line name (own_slots (of_scope body)) (flat_map method_names (of_scope body))
 
 abbrev pub classes_behind : Outer → List Found → List Statement → List Found
 classes_behind o earlier [] = []

@@ -15,10 +15,9 @@ use Rattle.symbols.specs.declared.binding.Binding.{Binding}
 use Rattle.symbols.specs.declared.binding.BindingKind.{BindingKind}
 use Rattle.symbols.specs.declared.binding.BindingKind.TheVariants as by
 use Rattle.symbols.specs.declared.class.ClassKind.{ClassKind}
-use Rattle.symbols.specs.declared.class.Found.{Found}
 use Rattle.symbols.specs.Words.{among}
 use Rattle.symbols.specs.Bindings.{bound, bindings, names_of, first_mentions, param_names}
-use Rattle.symbols.specs.Classes.{found_classes}
+use Rattle.symbols.specs.Classes.{Found, found_classes}
 use Rattle.symbols.specs.Functions.{FunctionAt, functions}
 use Rattle.symbols.specs.SpecialNames.{at, module_context, special_lines}
 

@@ -3,7 +3,10 @@ pub mod Views
 pub mod Names
 pub mod Kinds
 pub mod Bindings
+pub mod BaseKinds
 pub mod Classes
+pub mod ClassViews
+pub mod BasePlaces
 pub mod Functions
 pub mod SpecialNames
 pub mod Contexts
@@ -18,3 +21,8 @@ pub mod ModuleKinds
 pub mod Answers
 pub mod Uses
 pub mod Places
+pub mod ImportTables
+pub mod ClassTables
+pub mod Tallies
+pub mod Lineages
+pub mod ClassOrders

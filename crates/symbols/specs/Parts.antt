@@ -8,12 +8,10 @@ use Rattle.py_tree.specs.TopPart.{below_top_part}
 use Rattle.py_tree.specs.declared.code.Code.TheVariants.{BadBase, MemberClash, BoundTwice, LateImport, SpecialName}
 use Rattle.py_tree.specs.declared.fault.Fault.{Fault}
 use Rattle.symbols.specs.declared.binding.Binding.{Binding}
-use Rattle.symbols.specs.declared.class.Found.{Found}
-use Rattle.symbols.specs.declared.outer.Outer.{Outer}
 use Rattle.symbols.specs.declared.parts.Parts.{Parts}
 use Rattle.symbols.specs.declared.resolved.ModuleKind.{ModuleKind}
 use Rattle.symbols.specs.Bindings.{bindings}
-use Rattle.symbols.specs.Classes.{found_classes}
+use Rattle.symbols.specs.Classes.{Found}
 use Rattle.symbols.specs.Faults.{bad_lines, bound_again, clash_lines, coded, import_lines, imports_of, in_class, is_definition, repeated_params}
 use Rattle.symbols.specs.Functions.{functions}
 use Rattle.symbols.specs.Located.{located}
@@ -36,13 +34,12 @@ special_with kind bs scope = flat_map (module_lines (context_in kind bs)) scope
 abbrev pub special_in : Parts → List ℕ
 special_in p = special_with (module_kind (statements_of p.body.now)) p.bindings.now (seen p.scope.now)
 
-abbrev pub faults_of : Parts → List Fault
-faults_of p = ((class_faults p.classes.now ++ coded BoundTwice (twice_lines p)) ++ coded LateImport (late_lines p)) ++ coded SpecialName (special_in p)
+abbrev pub faults_of : Parts → List Found → List Fault
+faults_of p classes = ((class_faults classes ++ coded BoundTwice (twice_lines p)) ++ coded LateImport (late_lines p)) ++ coded SpecialName (special_in p)
 
 -- the parts are those of this module
-pub record IsPartsOf (o : Outer) (ss : Statements) (p : Parts) : Type 0 where
+pub record IsPartsOf (ss : Statements) (p : Parts) : Type 0 where
   pub statements : statements_of p.body.now ≡ ss
   pub bound : p.bindings.now ≡ bindings ss
   pub inside : seen p.scope.now ≡ of_scope ss
   pub defined : located p.functions.now ≡ functions ss
-  pub found : p.classes.now ≡ found_classes o ss

@@ -1,11 +1,12 @@
 -- No definition of the language: where the first of the things with a name stands among others, for each name.
-use Rattle.std.specs.Prelude.{◌≡◌, ◌<◌, ℕ, Bool, List, length, slice_get, Option, Some, None}
+use Rattle.std.specs.Prelude.{◌≡◌, ◌<◌, ℕ, Bool, List, length, slice_get, take, Option, Some, None}
 use Rattle.std.specs.List.{find}
 use Rattle.std.specs.Str.{bytes_eq}
 use Rattle.py_tree.specs.Syntax.{Text}
-use Rattle.symbols.specs.declared.class.Found.{Found}
+use Rattle.symbols.specs.Classes.{Found}
 use Rattle.symbols.specs.declared.name_map.NameMap.{NameMap}
 use Rattle.symbols.specs.declared.outer.OuterBinding.{OuterBinding}
+use Rattle.symbols.specs.ClassViews.{kinds_of}
 use Rattle.symbols.specs.Names.{found}
 
 abbrev pub IsPlace : {X : Type 0} → (X → Bool) → List X → Option ℕ → Type 0
@@ -20,3 +21,7 @@ class_name c = c.class.name
 
 abbrev pub outer_name : OuterBinding → Text
 outer_name b = b.name
+
+-- where the classes of each binding begin among those of all
+abbrev pub AreStarts : List OuterBinding → List ℕ → Type 0
+AreStarts bindings starts = (place : ℕ) → place < length bindings → slice_get starts place ≡ Some (length (kinds_of (take place bindings)))

@@ -1,71 +1,86 @@
-ghost use Rattle.std.specs.Prelude.{◌≡◌, ◌++◌, [], IfOk, OnOk};
-ghost use Rattle.std.specs.List.{flat_map, list_any};
+ghost use Rattle.std.specs.Prelude.{◌≡◌, ◌<◌, ◌++◌, ◌∷◌, [], ℕ, Some, IfOk, OnOk, codes, length, slice_get};
+ghost use Rattle.std.specs.List.{flat_map};
 ghost use Rattle.py_tree.specs.Joined.{class_of, statement_of, target_of};
 ghost use Rattle.symbols.specs.Faults as spec;
-ghost use Rattle.symbols.specs.Names.{with_names};
+ghost use Rattle.symbols.specs.ClassOrders.{IsOrder};
+ghost use Rattle.symbols.specs.ClassViews.{founds};
+ghost use Rattle.symbols.specs.Lineages.{clash_at};
+ghost use Rattle.symbols.specs.declared.class.BasePlace.TheVariants.{Earlier};
 ghost use Rattle.symbols.specs.Views.{seen};
-ghost use Rattle.symbols.specs.Words.{among};
 
 use crate::binding::{BindingKind, Bindings};
 use crate::bindings::put_name;
-use crate::class::{ClassKind, Found};
-use crate::classes::add_texts;
-use crate::names::Names;
+use crate::class_list::FoundClasses;
+use crate::class_order::order_of;
+use crate::lineage::Lineage;
 use crate::repeats::members_again;
 use crate::scope::scope_of;
 use crate::special_lines::{Lines, put_line};
-use py_tree::expression::Target;
+use py_tree::expression::{Target, Texts};
 use py_tree::statement::{ClassDef, Stmt, StmtKind};
 use py_tree::text::Text;
 use std::alloc::{AllocError, Global};
 
 /// The lines of the classes whose base is none.
-pub(crate) fn bad_lines(alloc: Global, classes: &[Found]) -> Result<Lines, AllocError>
-    ensures { IfOk result (λ lines. lines ≡ spec.bad_lines classes.now) }
+pub(crate) fn bad_lines(alloc: Global, classes: &FoundClasses) -> Result<Lines, AllocError>
+    ensures { IfOk result (λ lines. lines ≡ spec.bad_lines (founds classes.now)) }
 {
     let mut lines = Lines::new(alloc);
-    for found in classes {
-        put_line(found.class.line, found.is_bad, &mut lines)?;
+    for class in classes.own.as_slice() {
+        put_line(class.line, class.base.is_bad(), &mut lines)?;
     }
     Ok(lines)
 }
 
 /// The lines of the classes with a name that is both a slot and a method.
-pub(crate) fn clash_lines(alloc: Global, classes: &[Found]) -> Result<Lines, AllocError>
-    ensures { IfOk result (λ lines. lines ≡ spec.clash_lines classes.now) }
+pub(crate) fn clash_lines(alloc: Global, classes: &FoundClasses) -> Result<Lines, AllocError>
+    ensures { IfOk result (λ lines. lines ≡ spec.clash_lines (founds classes.now)) }
 {
+    let flags = clashes(alloc, classes)?;
     let mut lines = Lines::new(alloc);
-    for found in classes {
-        let is_fault = clashes(alloc, &found.class.kind)?;
-        put_line(found.class.line, is_fault, &mut lines)?;
+    for (number, class) in classes.own.as_slice().iter().enumerate() {
+        put_line(class.line, flags[number], &mut lines)?;
     }
     Ok(lines)
 }
 
-fn clashes(alloc: Global, kind: &ClassKind) -> Result<bool, AllocError>
-    ensures { IfOk result (λ is_so. is_so ≡ spec.clash kind.now) }
+/// Whether a name is both a slot and a method, of each class.
+fn clashes(alloc: Global, classes: &FoundClasses) -> Result<Vec<bool>, AllocError>
+    ensures count { IfOk result (λ flags. length flags.items ≡ length classes.now.own) }
+    ensures each { IfOk result (λ flags. (number : ℕ) → number < length classes.now.own → slice_get flags.items number ≡ Some (clash_at classes.now (Earlier number))) }
 {
-    let methods = names_of(alloc, kind.methods.as_slice())?;
-    Ok(any_among(kind.slots.as_slice(), &methods))
+    let args = args_slots(alloc)?;
+    let order = order_of(alloc, classes)?;
+    clashes_in(alloc, classes, args.as_slice(), order.as_slice())
 }
 
-fn names_of(alloc: Global, texts: &[Text]) -> Result<Names<'_>, AllocError>
-    ensures { IfOk result (λ names. names ≡ with_names [] texts.now) }
+/// The slots of an exception class.
+fn args_slots(alloc: Global) -> Result<Texts, AllocError>
+    ensures { IfOk result (λ slots. slots ≡ codes "args" ∷ []) }
 {
-    let mut names = Names::new(alloc);
-    add_texts(texts, &mut names)?;
-    Ok(names)
+    let mut slots = Texts::new(alloc);
+    slots.push(Text::from_slice(alloc, &['a', 'r', 'g', 's'])?)?;
+    Ok(slots)
 }
 
-fn any_among(slots: &[Text], methods: &Names<'_>) -> bool
-    ensures { result ≡ list_any (λ slot. among slot methods.now) slots.now }
+/// The same, where the classes are visited in an order that has each of them.
+fn clashes_in(
+    alloc: Global,
+    classes: &FoundClasses,
+    args: &[Text],
+    order: &[usize],
+) -> Result<Vec<bool>, AllocError>
+    requires args { args.now ≡ codes "args" ∷ [] }
+    requires all { IsOrder (length classes.now.own) order.now }
+    ensures count { IfOk result (λ flags. length flags.items ≡ length classes.now.own) }
+    ensures each { IfOk result (λ flags. (number : ℕ) → number < length classes.now.own → slice_get flags.items number ≡ Some (clash_at classes.now (Earlier number))) }
 {
-    for slot in slots {
-        if methods.has(slot) {
-            return true;
-        }
+    let mut flags = vec![in alloc; false; classes.own.len()]?;
+    let mut lineage = Lineage::new(alloc, classes, args);
+    for number in order {
+        flags[*number] = lineage.visit(alloc, *number)?;
     }
-    false
+    Ok(flags)
 }
 
 /// Puts the lines of the second members of one name, of each class.

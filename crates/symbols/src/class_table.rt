@@ -1,8 +1,11 @@
-ghost use Rattle.std.specs.Prelude.{◌≡◌, ◌++◌, ◌∷◌, [], IfOk, length, slice_get};
-ghost use Rattle.std.specs.Option.{option_copied};
-ghost use Rattle.symbols.specs.Classes.{earlier_class, kind_of_found};
+ghost use Rattle.std.specs.Prelude.{◌≡◌, ◌++◌, ◌∷◌, [], IfOk, length};
+ghost use Rattle.symbols.specs.BasePlaces.{IsPlaced};
+ghost use Rattle.symbols.specs.Classes.{earlier_class};
+ghost use Rattle.symbols.specs.ClassViews.{StandsAt, found_at, founds, joined_last, kinds_found, kinds_of};
 
-use crate::class::{ClassKind, Found};
+use crate::class::OwnClass;
+use crate::class_list::FoundClasses;
+use crate::imported::Imported;
 use crate::name_map::NameMap;
 use lists::Items;
 use py_tree::text::Text;
@@ -12,76 +15,83 @@ use std::marker::Model;
 /// Classes in the order of the text, which are found by their names.
 #[derive(Drop)]
 pub(crate) struct ClassTable<'a> {
-    all: Items<Found>,
-    /// The place of the first class of each name.
-    places: NameMap<'a, usize>,
+    imported: Imported<'a>,
+    own: Items<OwnClass>,
+    /// The number of the first class of each name.
+    numbers: NameMap<'a, usize>,
 }
 
 impl<'a> Model for ClassTable<'a> {
-    ghost use Rattle.std.specs.Prelude.{List};
-    ghost use Rattle.symbols.specs.declared.class.Found.{Found as Known};
-    ghost use Rattle.symbols.specs.Places.{ArePlaces, class_name};
+    ghost use Rattle.symbols.specs.ClassViews.{Tabled};
+    ghost use Rattle.symbols.specs.ClassTables.{IsClassTable};
 
-    ghost Value = { List Known };
+    ghost Value = { Tabled };
 
-    ghost view = { λ table. table.all };
+    ghost view = { λ table. record { outer = table.imported; own = table.own } };
 
-    ghost invariant = { λ table. ArePlaces class_name table.all table.places };
+    ghost invariant = { λ table. IsClassTable table.imported table.own table.numbers };
 }
 
 impl<'a> ClassTable<'a> {
-    pub fn new(alloc: Global) -> ClassTable<'a>
-        ensures { result ≡ [] }
+    pub fn new(alloc: Global, imported: Imported<'a>) -> ClassTable<'a>
+        ensures outer { result.outer ≡ imported.entry }
+        ensures none { result.own ≡ [] }
     {
         ClassTable {
-            all: Items::new(alloc),
-            places: NameMap::new(alloc),
+            imported,
+            own: Items::new(alloc),
+            numbers: NameMap::new(alloc),
         }
+    }
+
+    /// What the module's names are resolved against.
+    pub fn imported(&self) -> &Imported<'a>
+        ensures { result.now ≡ self.now.outer }
+    {
+        &self.imported
     }
 
     /// They, with a class of that name behind them.
-    pub fn with(self, name: &'a Text, found: Found) -> Result<ClassTable<'a>, AllocError>
-        requires { found.class.name ≡ name.now }
-        ensures { IfOk result (λ table. table ≡ self.entry ++ found ∷ []) }
+    pub fn with(self, name: &'a Text, class: OwnClass) -> Result<ClassTable<'a>, AllocError>
+        requires named { class.name ≡ name.now }
+        requires placed { IsPlaced (length (kinds_of self.outer.bindings)) (length self.own) class.base }
+        ensures outer { IfOk result (λ table. table.outer ≡ self.entry.outer) }
+        ensures found { IfOk result (λ table. found_at table ≡ found_at self.entry ++ joined_last self.entry class ∷ []) }
     {
         let ClassTable {
-            mut all,
-            mut places,
+            imported,
+            mut own,
+            mut numbers,
         } = self;
-        places.keep(name, all.len())?;
-        all.push(found)?;
-        Ok(ClassTable { all, places })
+        numbers.keep(name, own.len())?;
+        own.push(class)?;
+        Ok(ClassTable {
+            imported,
+            own,
+            numbers,
+        })
     }
 
-    pub fn len(&self) -> usize
-        ensures { result ≡ length self.now }
+    /// The number of the first class of that name.
+    pub fn number(&self, name: &Text) -> Option<usize>
+        ensures { StandsAt (kinds_found (found_at self.now)) (earlier_class (found_at self.now) name.now) result }
     {
-        self.all.len()
+        self.numbers.get(name)
     }
 
-    /// The first class of that name.
-    pub fn get(&self, name: &Text) -> Option<&ClassKind>
-        ensures { option_copied result ≡ earlier_class self.now name.now }
+    pub fn into_found(self) -> FoundClasses
+        ensures { founds result ≡ found_at self.entry }
     {
-        match self.places.get(name) {
-            Some(place) => kind_at(self.all.as_slice(), place),
-            None => None,
+        let ClassTable {
+            imported,
+            own,
+            numbers: _,
+        } = self;
+        let home = imported.number();
+        FoundClasses {
+            home,
+            others: imported.into_kinds(),
+            own,
         }
-    }
-
-    pub fn into_items(self) -> Items<Found>
-        ensures { result ≡ self.entry }
-    {
-        let ClassTable { all, places: _ } = self;
-        all
-    }
-}
-
-fn kind_at(classes: &[Found], place: usize) -> Option<&ClassKind>
-    ensures { option_copied result ≡ kind_of_found (slice_get classes.now place) }
-{
-    match classes.get(place) {
-        Some(found) => Some(&found.class.kind),
-        None => None,
     }
 }

@@ -1,25 +1,28 @@
-ghost use Rattle.std.specs.Prelude.{◌≡◌, ◌++◌, [], IfOk, OnOk};
+ghost use Rattle.std.specs.Prelude.{◌≡◌, ◌++◌, ◌∷◌, [], List, IfOk, OnOk, length};
 ghost use Rattle.std.specs.List.{flat_map};
-ghost use Rattle.py_tree.specs.Joined.{class_of, expression_of, function_of, statement_of, statements_of, target_of};
+ghost use Rattle.py_tree.specs.Joined.{class_of, expression_of, function_of, maybe_of, statement_of, statements_of, target_of};
+ghost use Rattle.py_tree.specs.Syntax as x;
+ghost use Rattle.py_tree.specs.Syntax.{Statement};
 ghost use Rattle.symbols.specs.Bindings.{first_mentions};
+ghost use Rattle.symbols.specs.BasePlaces.{IsPlaced};
+ghost use Rattle.symbols.specs.ClassViews.{found_at, founds, joined_last, kinds_of};
 ghost use Rattle.symbols.specs.Classes as spec;
-ghost use Rattle.symbols.specs.Classes.{class_behind, class_below, classes_behind, kind_below};
+ghost use Rattle.symbols.specs.Classes.{class_behind, classes_behind, name_of};
 ghost use Rattle.symbols.specs.Names.{with_names};
 ghost use Rattle.symbols.specs.Views.{seen};
 
 use crate::bases::base_of;
-use crate::class::{Base, Class, ClassKind, Found};
+use crate::class::OwnClass;
+use crate::class_list::FoundClasses;
 use crate::class_table::ClassTable;
 use crate::imported::Imported;
 use crate::names::Names;
 use crate::outer::Outer;
 use crate::scope::scope_of;
 use crate::words::is_word;
-use lists::Items;
 use py_tree::expression::{Expr, Target, Texts};
 use py_tree::statement::{ClassDef, Function, Stmt, StmtKind};
 use py_tree::text::Text;
-use py_values::class_id::ClassId;
 use std::alloc::{AllocError, Global};
 
 /// The classes among these statements of a module.
@@ -27,128 +30,123 @@ pub(crate) fn classes_of(
     alloc: Global,
     outer: &Outer,
     scope: &[&Stmt],
-) -> Result<Items<Found>, AllocError>
-    ensures { IfOk result (λ all. all ≡ classes_behind outer.now [] (seen scope.now)) }
+) -> Result<FoundClasses, AllocError>
+    ensures { IfOk result (λ all. founds all ≡ classes_behind outer.now [] (seen scope.now)) }
 {
     let imported = Imported::new(alloc, outer)?;
-    classes_in(alloc, &imported, scope)
+    let all = classes_in(alloc, imported, scope)?;
+    Ok(all.into_found())
 }
 
-fn classes_in(
+fn classes_in<'a>(
     alloc: Global,
-    outer: &Imported<'_>,
-    scope: &[&Stmt],
-) -> Result<Items<Found>, AllocError>
-    ensures { IfOk result (λ all. all ≡ classes_behind outer.now [] (seen scope.now)) }
+    imported: Imported<'a>,
+    scope: &[&'a Stmt],
+) -> Result<ClassTable<'a>, AllocError>
+    ensures { IfOk result (λ all. found_at all ≡ classes_behind imported.entry [] (seen scope.now)) }
 {
-    let mut all = ClassTable::new(alloc);
+    let mut all = ClassTable::new(alloc, imported);
     for statement in scope {
-        if let StmtKind::Class(class) = &statement.kind {
-            let found = found_class(alloc, outer, &all, statement.line, class.get())?;
-            all = all.with(&class.get().name, found)?;
-        }
+        all = with_statement(alloc, all, *statement)?;
     }
-    Ok(all.into_items())
+    Ok(all)
+}
+
+/// They, with the class of a statement, if it is one, behind them.
+fn with_statement<'a>(
+    alloc: Global,
+    all: ClassTable<'a>,
+    statement: &'a Stmt,
+) -> Result<ClassTable<'a>, AllocError>
+    ensures outer { IfOk result (λ table. table.outer ≡ all.entry.outer) }
+    ensures behind { IfOk result (λ table. (rest : List Statement) → found_at table ++ classes_behind all.entry.outer (found_at table) rest ≡ found_at all.entry ++ classes_behind all.entry.outer (found_at all.entry) (statement_of statement.now ∷ rest)) }
+{
+    match &statement.kind {
+        StmtKind::Class(class) => { with_class(alloc, all, statement.line, class.get()) }
+        _ => Ok(all),
+    }
+}
+
+fn with_class<'a>(
+    alloc: Global,
+    all: ClassTable<'a>,
+    line: u32,
+    class: &'a ClassDef,
+) -> Result<ClassTable<'a>, AllocError>
+    ensures outer { IfOk result (λ table. table.outer ≡ all.entry.outer) }
+    ensures behind { IfOk result (λ table. (rest : List Statement) → found_at table ++ classes_behind all.entry.outer (found_at table) rest ≡ found_at all.entry ++ classes_behind all.entry.outer (found_at all.entry) (x.On line (x.Class (class_of class.now)) ∷ rest)) }
+{
+    let own = own_class(alloc, &all, line, class)?;
+    let all = all.with(&class.name, own)?;
+    Ok(all)
 }
 
 /// The class that stands behind these.
-fn found_class(
+fn own_class(
     alloc: Global,
-    outer: &Imported<'_>,
     earlier: &ClassTable<'_>,
     line: u32,
     class: &ClassDef,
-) -> Result<Found, AllocError>
-    ensures { IfOk result (λ found. found ≡ class_behind outer.now earlier.now line (class_of class.now)) }
+) -> Result<OwnClass, AllocError>
+    ensures named { IfOk result (λ own. own.name ≡ name_of (class_of class.now)) }
+    ensures placed { IfOk result (λ own. IsPlaced (length (kinds_of earlier.now.outer.bindings)) (length earlier.now.own) own.base) }
+    ensures joined { IfOk result (λ own. joined_last earlier.now own ≡ class_behind earlier.now.outer (found_at earlier.now) line (class_of class.now)) }
 {
-    let number = u32::try_from(earlier.len()).map_err(|_| AllocError)?;
-    let id = ClassId::User {
-        home: outer.number(),
-        number,
-    };
-    let base = base_of(alloc, outer, earlier, &class.base)?;
-    let scope = scope_of(alloc, class.body.as_slice())?;
-    class_below(alloc, id, &base, line, &class.name, scope.as_slice())
+    class_with(
+        alloc,
+        earlier,
+        line,
+        &class.name,
+        &class.base,
+        class.body.as_slice(),
+    )
 }
 
-fn class_below<'a>(
+/// The class with that name, that base and that body which stands behind these.
+fn class_with(
     alloc: Global,
-    id: ClassId,
-    base: &'a Base,
+    earlier: &ClassTable<'_>,
     line: u32,
     name: &Text,
-    body: &[&'a Stmt],
-) -> Result<Found, AllocError>
-    ensures { IfOk result (λ found. found ≡ class_below id base.now line name.now (seen body.now)) }
+    base: &Option<Expr>,
+    body: &[Stmt],
+) -> Result<OwnClass, AllocError>
+    ensures named { IfOk result (λ own. own.name ≡ name.now) }
+    ensures placed { IfOk result (λ own. IsPlaced (length (kinds_of earlier.now.outer.bindings)) (length earlier.now.own) own.base) }
+    ensures joined { IfOk result (λ own. joined_last earlier.now own ≡ class_behind earlier.now.outer (found_at earlier.now) line (x.Classed name.now (maybe_of base.now) (statements_of body.now))) }
 {
-    let kind = kind_below(alloc, id, base, body)?;
-    let methods = methods_behind(alloc, &[], body)?;
+    let scope = scope_of(alloc, body)?;
     let name = name.copy(alloc)?;
-    Ok(Found {
-        class: Class {
-            name,
-            line,
-            base: base.id(),
-            kind,
-            methods,
-        },
-        is_bad: base.is_bad(),
+    let slots = slots_of(alloc, scope.as_slice())?;
+    let methods = methods_of(alloc, scope.as_slice())?;
+    Ok(OwnClass {
+        name,
+        line,
+        base: base_of(earlier, base),
+        slots,
+        methods,
     })
 }
 
-fn kind_below<'a>(
-    alloc: Global,
-    id: ClassId,
-    base: &'a Base,
-    body: &[&'a Stmt],
-) -> Result<ClassKind, AllocError>
-    ensures { IfOk result (λ kind. kind ≡ kind_below id base.now (seen body.now)) }
-{
-    Ok(ClassKind {
-        id,
-        slots: slots_behind(alloc, base.slots(), body)?,
-        methods: methods_behind(alloc, base.methods(), body)?,
-    })
-}
-
-/// These slots, and then those that a class body gives, each once.
-#[tactic(auto, using(crate::proofs::Sets::with_names_three))]
-fn slots_behind<'a>(
-    alloc: Global,
-    slots: &'a [Text],
-    body: &[&'a Stmt],
-) -> Result<Texts, AllocError>
-    ensures { IfOk result (λ all. all ≡ first_mentions (slots.now ++ spec.own_slots (seen body.now))) }
+/// The slots that a class body gives, each once.
+#[tactic(auto, using(crate::proofs::Sets::with_names_both))]
+fn slots_of<'a>(alloc: Global, body: &[&'a Stmt]) -> Result<Texts, AllocError>
+    ensures { IfOk result (λ all. all ≡ first_mentions (spec.own_slots (seen body.now))) }
 {
     let mut names = Names::new(alloc);
-    add_texts(slots, &mut names)?;
     add_fields(body, &mut names)?;
     add_inits(alloc, body, &mut names)?;
     names.texts(alloc)
 }
 
-/// These methods, and then those of a class body, each once.
-#[tactic(auto, using(crate::proofs::Sets::with_names_both))]
-fn methods_behind<'a>(
-    alloc: Global,
-    methods: &'a [Text],
-    body: &[&'a Stmt],
-) -> Result<Texts, AllocError>
-    ensures { IfOk result (λ all. all ≡ first_mentions (methods.now ++ flat_map spec.method_names (seen body.now))) }
+/// The methods of a class body, each once.
+#[tactic(auto, using(crate::proofs::Sets::with_names_first))]
+fn methods_of<'a>(alloc: Global, body: &[&'a Stmt]) -> Result<Texts, AllocError>
+    ensures { IfOk result (λ all. all ≡ first_mentions (flat_map spec.method_names (seen body.now))) }
 {
     let mut names = Names::new(alloc);
-    add_texts(methods, &mut names)?;
     add_methods(body, &mut names)?;
     names.texts(alloc)
-}
-
-pub(crate) fn add_texts<'a>(texts: &'a [Text], names: &mut Names<'a>) -> Result<(), AllocError>
-    ensures { OnOk result (names.new ≡ with_names names.old texts.now) }
-{
-    for text in texts {
-        names.add(text)?;
-    }
-    Ok(())
 }
 
 #[tactic(auto, using(crate::proofs::Sets::with_names_append))]
@@ -294,40 +292,5 @@ fn is_self(e: &Expr) -> bool
     match e {
         Expr::Name(object) => is_word(object, b"self"),
         _ => false,
-    }
-}
-
-impl Base {
-    fn id(&self) -> Option<ClassId>
-        ensures { result ≡ spec.base_id self.now }
-    {
-        match self {
-            Base::Class(kind) => Some(kind.id),
-            _ => None,
-        }
-    }
-
-    fn slots(&self) -> &[Text]
-        ensures { result.now ≡ spec.base_slots self.now }
-    {
-        match self {
-            Base::Class(kind) => kind.slots.as_slice(),
-            _ => &[],
-        }
-    }
-
-    fn methods(&self) -> &[Text]
-        ensures { result.now ≡ spec.base_methods self.now }
-    {
-        match self {
-            Base::Class(kind) => kind.methods.as_slice(),
-            _ => &[],
-        }
-    }
-
-    fn is_bad(&self) -> bool
-        ensures { result ≡ spec.is_bad self.now }
-    {
-        matches!(self, Base::Bad)
     }
 }

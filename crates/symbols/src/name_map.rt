@@ -1,4 +1,4 @@
-ghost use Rattle.std.specs.Prelude.{◌≡◌, None, Some, OnOk, if◌then◌else◌};
+ghost use Rattle.std.specs.Prelude.{◌≡◌, None, Some, OnErr, OnOk, if◌then◌else◌};
 ghost use Rattle.std.specs.Option.{option_or};
 ghost use Rattle.std.specs.Str.{bytes_eq};
 ghost use Rattle.py_tree.specs.Syntax.{Text as Name};
@@ -32,7 +32,8 @@ impl<'a, V: Copy> NameMap<'a, V> {
 
     /// Gives a name its value in place of the one that it has.
     pub fn put(&mut self, name: &'a Text, value: V) -> Result<(), AllocError>
-        ensures { OnOk result ((other : Name) → found self.new other ≡ (if bytes_eq other name.now then Some value else found self.old other)) }
+        ensures found { OnOk result ((other : Name) → found self.new other ≡ (if bytes_eq other name.now then Some value else found self.old other)) }
+        ensures err { OnErr result ((other : Name) → found self.new other ≡ found self.old other) }
     {
         self.map.insert(name.as_slice(), value)?;
         Ok(())
@@ -40,7 +41,8 @@ impl<'a, V: Copy> NameMap<'a, V> {
 
     /// Gives a name its value, where it has none.
     pub fn keep(&mut self, name: &'a Text, value: V) -> Result<(), AllocError>
-        ensures { OnOk result ((other : Name) → found self.new other ≡ option_or (found self.old other) (if bytes_eq other name.now then Some value else None)) }
+        ensures found { OnOk result ((other : Name) → found self.new other ≡ option_or (found self.old other) (if bytes_eq other name.now then Some value else None)) }
+        ensures err { OnErr result ((other : Name) → found self.new other ≡ found self.old other) }
     {
         if self.map.get(name.as_slice()).is_none() {
             self.map.insert(name.as_slice(), value)?;

@@ -1,4 +1,4 @@
-ghost use Rattle.std.specs.Prelude.{◌≡◌, [], IfOk, OnOk, length, not};
+ghost use Rattle.std.specs.Prelude.{◌≡◌, [], IfOk, OnErr, OnOk, length, not};
 ghost use Rattle.symbols.specs.Names.{with_name};
 ghost use Rattle.symbols.specs.Words.{among};
 
@@ -36,6 +36,7 @@ impl<'a> Names<'a> {
     pub fn add(&mut self, name: &'a Text) -> Result<bool, AllocError>
         ensures names { OnOk result (self.new ≡ with_name self.old name.now) }
         ensures new { IfOk result (λ new. new ≡ not (among name.now self.old)) }
+        ensures err { OnErr result (self.new ≡ self.old) }
     {
         Ok(self.set.insert(name.as_slice())?)
     }

@@ -2,6 +2,7 @@ ghost use Rattle.std.specs.Prelude.{◌≡◌, ◌++◌, IfOk, OnOk};
 ghost use Rattle.py_tree.specs.declared.code.Code.TheVariants as code;
 ghost use Rattle.std.specs.List.{flat_map};
 ghost use Rattle.symbols.specs.Unders.{context_under};
+ghost use Rattle.symbols.specs.ClassViews.{founds};
 ghost use Rattle.symbols.specs.Faults.{coded};
 ghost use Rattle.symbols.specs.FirstFaults.{IsFirstOf};
 ghost use Rattle.symbols.specs.Parts.{faults_of, twice_lines, special_in, special_with, class_faults, late_lines};
@@ -10,8 +11,8 @@ ghost use Rattle.symbols.specs.Views.{seen};
 
 use crate::binding::Binding;
 use crate::bound_names::statics_of;
-use crate::class::Found;
 use crate::class_faults::{bad_lines, clash_lines, put_repeated_members};
+use crate::class_list::FoundClasses;
 use crate::context::{Context, Statics};
 use crate::first_fault::{Faults, first_of, put_faults};
 use crate::functions::{FunctionAt, repeated_params};
@@ -33,23 +34,26 @@ pub(crate) struct Parts<'a> {
     /// The statements of the module's own scope.
     pub scope: &'a [&'a Stmt],
     pub functions: &'a [FunctionAt<'a>],
-    pub classes: &'a [Found],
 }
 
 impl<'a> Parts<'a> {
     /// The first fault of the module's names.
-    pub fn first_fault(&self, alloc: Global) -> Result<Option<Fault>, AllocError>
-        ensures { IfOk result (λ first. IsFirstOf (faults_of self.now) first) }
+    pub fn first_fault(
+        &self,
+        alloc: Global,
+        classes: &FoundClasses,
+    ) -> Result<Option<Fault>, AllocError>
+        ensures { IfOk result (λ first. IsFirstOf (faults_of self.now (founds classes.now)) first) }
     {
-        let faults = self.faults(alloc)?;
+        let faults = self.faults(alloc, classes)?;
         Ok(first_of(faults.as_slice()))
     }
 
-    fn faults(&self, alloc: Global) -> Result<Faults, AllocError>
-        ensures { IfOk result (λ faults. faults ≡ faults_of self.now) }
+    fn faults(&self, alloc: Global, classes: &FoundClasses) -> Result<Faults, AllocError>
+        ensures { IfOk result (λ faults. faults ≡ faults_of self.now (founds classes.now)) }
     {
         let mut faults = Faults::new(alloc);
-        put_class_faults(alloc, self.classes, &mut faults)?;
+        put_class_faults(alloc, classes, &mut faults)?;
         self.put_repeats(alloc, &mut faults)?;
         self.put_late_imports(alloc, &mut faults)?;
         self.put_special_names(alloc, &mut faults)?;
@@ -115,8 +119,12 @@ fn special_under(alloc: Global, statics: &Statics<'_>, scope: &[&Stmt]) -> Resul
 }
 
 /// Puts the faults of bases and of members.
-fn put_class_faults(alloc: Global, classes: &[Found], faults: &mut Faults) -> Result<(), AllocError>
-    ensures { OnOk result (faults.new ≡ faults.old ++ class_faults classes.now) }
+fn put_class_faults(
+    alloc: Global,
+    classes: &FoundClasses,
+    faults: &mut Faults,
+) -> Result<(), AllocError>
+    ensures { OnOk result (faults.new ≡ faults.old ++ class_faults (founds classes.now)) }
 {
     let bad = bad_lines(alloc, classes)?;
     put_faults(Code::BadBase, bad.as_slice(), faults)?;

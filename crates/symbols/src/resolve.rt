@@ -4,17 +4,17 @@ ghost use Rattle.py_tree.specs.Lawful.{lawful};
 ghost use Rattle.symbols.specs.Answers.{Exact, IsResolved, Right};
 ghost use Rattle.symbols.specs.Bindings as spec;
 ghost use Rattle.symbols.specs.Bindings.{globals_in, locals};
-ghost use Rattle.symbols.specs.Classes.{classes_in};
+ghost use Rattle.symbols.specs.Classes.{classes as spec_classes, found_classes};
+ghost use Rattle.symbols.specs.ClassViews.{founds};
 ghost use Rattle.symbols.specs.Functions.{locals_in};
 ghost use Rattle.symbols.specs.Located.{located};
 ghost use Rattle.symbols.specs.Parts.{IsPartsOf};
 ghost use Rattle.symbols.specs.Uses.{EachUseIsBound};
 
-use crate::bases::copy_texts;
 use crate::binding::Binding;
 use crate::bindings::bindings_of;
 use crate::bound_names::{globals_of, locals_of};
-use crate::class::{Class, Classes, Found};
+use crate::class_list::{Classes, FoundClasses};
 use crate::classes::classes_of;
 use crate::functions::{FunctionAt, functions_of};
 use crate::imports::module_kind;
@@ -28,8 +28,8 @@ use py_tree::fault::Stop;
 use py_tree::statement::{Function, Module, Stmt};
 use std::alloc::{AllocError, Global};
 
-/// The names of a module (Python reference: naming and binding). In time linear in its text, but for the slots and methods of classes,
-/// which are listed with those of their bases, and for the search of a base among the classes of an imported module.
+/// The names of a module (Python reference: naming and binding). In time linear in its text, but for
+/// the search of a base among the classes of an imported module.
 ///
 /// # Errors
 ///
@@ -51,9 +51,8 @@ pub fn resolve(alloc: Global, tree: &Module, outer: &Outer) -> Result<Resolved, 
         bindings: bindings.as_slice(),
         scope: scope.as_slice(),
         functions: functions.as_slice(),
-        classes: classes.as_slice(),
     };
-    resolve_parts(alloc, tree, outer, &parts)
+    resolve_parts(alloc, tree, outer, &parts, classes)
 }
 
 /// Every use of a name has exactly one binding.
@@ -66,16 +65,18 @@ fn resolve_parts(
     tree: &Module,
     outer: &Outer,
     parts: &Parts<'_>,
+    classes: FoundClasses,
 ) -> Result<Resolved, Stop>
     requires lawful { lawful (module_of tree.now) ≡ true }
-    requires parts { IsPartsOf outer.now (module_of tree.now) parts.now }
+    requires parts { IsPartsOf (module_of tree.now) parts.now }
+    requires found { founds classes ≡ found_classes outer.now (module_of tree.now) }
     ensures right { Right outer.now tree.now result }
     ensures exact { Exact outer.now tree.now result }
 {
-    if let Some(fault) = parts.first_fault(alloc)? {
+    if let Some(fault) = parts.first_fault(alloc, &classes)? {
         return Err(Stop::Fault(fault));
     }
-    Ok(listed(alloc, tree, outer, parts)?)
+    Ok(listed(alloc, tree, outer, parts, Classes::of(classes))?)
 }
 
 /// The lists of a module's names.
@@ -84,13 +85,14 @@ fn listed(
     tree: &Module,
     outer: &Outer,
     parts: &Parts<'_>,
+    classes: Classes,
 ) -> Result<Resolved, AllocError>
     requires lawful { lawful (module_of tree.now) ≡ true }
-    requires parts { IsPartsOf outer.now (module_of tree.now) parts.now }
+    requires parts { IsPartsOf (module_of tree.now) parts.now }
+    requires classes { classes ≡ spec_classes outer.now (module_of tree.now) }
     ensures { IfOk result (IsResolved outer.now tree.now) }
 {
     let globals = global_names(alloc, parts.bindings)?;
-    let classes = copy_classes(alloc, parts.classes)?;
     let functions = locals_of_all(alloc, parts.functions)?;
     let kind = module_kind(parts.body);
     let statics = static_uses(alloc, kind, parts.bindings, parts.body)?;
@@ -113,31 +115,6 @@ fn global_names(alloc: Global, bindings: &[Binding]) -> Result<Texts, AllocError
 {
     let names = globals_of(alloc, bindings)?;
     names.texts(alloc)
-}
-
-fn copy_classes(alloc: Global, found: &[Found]) -> Result<Classes, AllocError>
-    ensures { IfOk result (λ classes. classes ≡ classes_in found.now) }
-{
-    let mut classes = Classes::new(alloc);
-    for known in found {
-        classes.push(known.class.copy(alloc)?)?;
-    }
-    Ok(classes)
-}
-
-impl Class {
-    /// An equal one.
-    pub fn copy(&self, alloc: Global) -> Result<Class, AllocError>
-        ensures equal { IfOk result (λ copy. copy ≡ self.now) }
-    {
-        Ok(Class {
-            name: self.name.copy(alloc)?,
-            line: self.line,
-            base: self.base,
-            kind: self.kind.copy(alloc)?,
-            methods: copy_texts(alloc, self.methods.as_slice())?,
-        })
-    }
 }
 
 fn locals_of_all(alloc: Global, functions: &[FunctionAt<'_>]) -> Result<FunctionsLocals, AllocError>

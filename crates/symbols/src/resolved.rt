@@ -2,7 +2,7 @@ ghost use Rattle.std.specs.Prelude.{◌≡◌, true};
 ghost use Rattle.py_tree.specs.Joined.{module_of};
 ghost use Rattle.py_tree.specs.Lawful.{lawful};
 
-use crate::class::Classes;
+use crate::class_list::Classes;
 use crate::static_use::StaticUses;
 use lists::Items;
 use py_tree::expression::Texts;

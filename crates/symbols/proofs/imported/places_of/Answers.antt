@@ -12,4 +12,4 @@ loop-place-preserved c =
     take_more c.args.bindings.now c.loop-place.place c.index-bindings-place.result within ∙ ap (λ (b : OuterBinding). take c.loop-place.place c.args.bindings.now ++ b ∷ []) (sym c.index-bindings-place.is)
     in
     kept outer_name (take c.loop-place.place c.args.bindings.now) (take (c.loop-place.place + 1) c.args.bindings.now) c.index-bindings-place.result c.index-bindings-place.result.name c.loop-place.place
-    c.loop-place.places c.keep.new.self refl (sym (length-take-le c.loop-place.place c.args.bindings.now (omega arith))) added c.in_ok-keep.ensures c.loop-place.invariant
+    c.loop-place.places c.keep.new.self refl (sym (length-take-le c.loop-place.place c.args.bindings.now (omega arith))) added c.in_ok-keep.ensures.found c.loop-place.invariant

@@ -6,8 +6,8 @@ use Rattle.std.specs.Str.{bytes_eq}
 use Rattle.symbols.proofs.Entries.{value, given, none_there}
 use Rattle.symbols.proofs.name_map.NameMap.keep.Goals as goal
 
-pub returns-in_ok-insert : goal.returns-in_ok-insert
-returns-in_ok-insert g c other =
+pub returns-in_ok-insert-clause-found : goal.returns-in_ok-insert-clause-found
+returns-in_ok-insert-clause-found g c other =
     let es = c.args.self.now.map.entries in
     let key = c.as_slice-then-is_none.result in
     let name = c.as_slice-then-is_none.ensures.points in

@@ -1,0 +1,121 @@
+-- Where the classes of imports stand among those of all.
+use Rattle.std.proofs.Common.{◌≡◌, ◌∙◌, ◌+◌, ◌<◌, ℕ, Bool, true, false, zero, suc, List, [], ◌∷◌, ◌++◌, map, length, take, Option, Some, None, refl, sym, ap, subst, append_assoc, arith, length-append, get_or, zero-add, add_assoc, ◌⊎◌, inl, inr}
+use Rattle.std.specs.Prelude.{slice_get}
+use Rattle.std.specs.List.{find, flat_map}
+use Rattle.std.specs.Str.{bytes_eq}
+use Rattle.std.specs.Option.{option_map, option_or}
+use Rattle.std.proofs.lemmas.List.Folds.{find-append}
+use Rattle.std.proofs.lemmas.Option.{slice_get-map, slice_get_within}
+use Rattle.std.proofs.lemmas.List.{take_more, append-nil, length-map}
+use Rattle.py_tree.specs.Syntax.{Text}
+use Rattle.symbols.specs.declared.class.ClassKind.{ClassKind}
+use Rattle.symbols.specs.declared.outer.Outer.{Outer}
+use Rattle.symbols.specs.declared.outer.OuterBinding.{OuterBinding}
+use Rattle.symbols.specs.declared.outer.OuterKind.{OuterKind}
+use Rattle.symbols.specs.declared.outer.OuterKind.TheVariants as outer
+use Rattle.symbols.specs.declared.outer.ModuleClass.{ModuleClass}
+use Rattle.symbols.specs.Classes.{class_kind, class_of_module, kind_of_member, kind_of_outer, module_classes, outer_kind}
+use Rattle.symbols.specs.ClassViews.{StandsAt, kinds_in, kinds_of}
+use Rattle.symbols.specs.Places.{IsPlace}
+
+pub slice_get-front : {X : Type 0} (xs ys : List X) (i : ℕ) → i < length xs → slice_get (xs ++ ys) i ≡ slice_get xs i
+slice_get-front [] ys i h = absurd (omega (arith, h))
+slice_get-front (x ∷ xs) ys zero h = refl
+slice_get-front (x ∷ xs) ys (suc i) h = slice_get-front xs ys i (omega (arith, h))
+
+pub slice_get-behind : {X : Type 0} (xs ys : List X) (i : ℕ) → slice_get (xs ++ ys) (length xs + i) ≡ slice_get ys i
+slice_get-behind [] ys i = ap (slice_get ys) (zero-add i)
+slice_get-behind (x ∷ xs) ys i = let more : suc (length xs) + i ≡ suc (length xs + i) = omega arith in ap (slice_get (x ∷ (xs ++ ys))) more ∙ slice_get-behind xs ys i
+
+pub kinds_of-push : (bs : List OuterBinding) (b : OuterBinding) → kinds_of (bs ++ b ∷ []) ≡ kinds_of bs ++ kinds_in b.kind
+kinds_of-push [] b = append-nil (kinds_in b.kind)
+kinds_of-push (x ∷ bs) b = ap (λ rest. kinds_in x.kind ++ rest) (kinds_of-push bs b) ∙ sym (append_assoc (kinds_in x.kind) (kinds_of bs) (kinds_in b.kind))
+
+pub kinds_at : (bs : List OuterBinding) (i j : ℕ) (b : OuterBinding) → slice_get bs i ≡ Some b → j < length (kinds_in b.kind) → slice_get (kinds_of bs) (length (kinds_of (take i bs)) + j) ≡ slice_get (kinds_in b.kind) j
+kinds_at [] i j b e h = cc (e)
+kinds_at (x ∷ bs) zero j b e h =
+    let same : x ≡ b = some_same e in
+    ap (slice_get (kinds_in x.kind ++ kinds_of bs)) (zero-add j) ∙ (ap (λ (y : OuterBinding). slice_get (kinds_in y.kind ++ kinds_of bs) j) same ∙ slice_get-front (kinds_in b.kind) (kinds_of bs) j h)
+  where
+    some_same : Some x ≡ Some b → x ≡ b
+    some_same f = cc (f)
+kinds_at (x ∷ bs) (suc i) j b e h =
+    ap (λ n. slice_get (kinds_in x.kind ++ kinds_of bs) (n + j)) (length-append (kinds_in x.kind) (kinds_of (take i bs)))
+    ∙ (ap (slice_get (kinds_in x.kind ++ kinds_of bs)) (add_assoc (length (kinds_in x.kind)) (length (kinds_of (take i bs))) j)
+    ∙ (slice_get-behind (kinds_in x.kind) (kinds_of bs) (length (kinds_of (take i bs)) + j) ∙ kinds_at bs i j b e h))
+
+pub class_stands : (o : Outer) (name : Text) (place start : ℕ) (b : OuterBinding) (k : ClassKind) → find (λ x. bytes_eq name x.name) o.bindings ≡ slice_get o.bindings place → slice_get o.bindings place ≡ Some b → b.kind ≡ outer.Class k
+    → start ≡ length (kinds_of (take place o.bindings)) → StandsAt (kinds_of o.bindings) (class_kind (outer_kind o name)) (Some start)
+class_stands o name place start b k found at is begin = (
+  k,
+  (
+    ap (λ f. class_kind (kind_of_outer f)) (found ∙ at) ∙ ap class_kind is,
+    ap (slice_get (kinds_of o.bindings)) (begin ∙ omega arith)
+        ∙ (kinds_at o.bindings place 0 b at (subst (λ q. 0 < length (kinds_in q)) (sym is) (omega arith)) ∙ ap (λ q. slice_get (kinds_in q) 0) is),
+  ),
+)
+
+-- a binding that is none of a class
+pub no_class : (o : Outer) (name : Text) (place : ℕ) (b : OuterBinding) → find (λ x. bytes_eq name x.name) o.bindings ≡ slice_get o.bindings place → slice_get o.bindings place ≡ Some b → class_kind b.kind ≡ None → class_kind (outer_kind o name) ≡ None
+no_class o name place b found at none = ap (λ f. class_kind (kind_of_outer f)) (found ∙ at) ∙ none
+
+-- an element within a list
+pub there : {X : Type 0} (xs : List X) (i : ℕ) → i < length xs → (x : X) × (slice_get xs i ≡ Some x)
+there [] i h = absurd (omega (arith, h))
+there (x ∷ xs) zero h = (x, refl)
+there (x ∷ xs) (suc i) h = there xs i (omega (arith, h))
+
+-- the class at a place of a module among its classes
+pub member_stands : (o : Outer) (from name : Text) (place start inside : ℕ) (b : OuterBinding) (cs : List ModuleClass) → find (λ x. bytes_eq from x.name) o.bindings ≡ slice_get o.bindings place → slice_get o.bindings place ≡ Some b → b.kind ≡ outer.Module cs
+    → start ≡ length (kinds_of (take place o.bindings)) → inside < length cs → find (λ c. bytes_eq name c.name) cs ≡ slice_get cs inside
+    → (start + inside < length (kinds_of o.bindings)) × StandsAt (kinds_of o.bindings) (class_of_module (module_classes (outer_kind o from)) name) (Some (start + inside))
+member_stands o from name place start inside b cs found at is begin within first =
+    let inside_of : inside < length (kinds_in b.kind) = subst (λ k. inside < length (kinds_in k)) (sym is) (rw (length-map cs (λ (c : ModuleClass). c.class)) within) in
+    let c : (x : ModuleClass) × (slice_get cs inside ≡ Some x) = there cs inside within in
+    let kind : outer_kind o from ≡ outer.Module cs = ap kind_of_outer (found ∙ at) ∙ is in
+    let stands : slice_get (kinds_of o.bindings) (start + inside) ≡ Some (c.0).class =
+    ap (λ n. slice_get (kinds_of o.bindings) (n + inside)) begin
+    ∙ (kinds_at o.bindings place inside b at inside_of
+    ∙ (ap (λ k. slice_get (kinds_in k) inside) is ∙ (slice_get-map (λ (m : ModuleClass). m.class) cs inside ∙ ap (option_map (λ (m : ModuleClass). m.class)) c.1)))
+    in
+    (slice_get_within (kinds_of o.bindings) (start + inside) (c.0).class stands, ((c.0).class, (ap (λ k. class_of_module (module_classes k) name) kind ∙ ap kind_of_member (first ∙ c.1), stands)))
+
+-- one that is none of a module
+pub no_member : (o : Outer) (from name : Text) (place : ℕ) (b : OuterBinding) → find (λ x. bytes_eq from x.name) o.bindings ≡ slice_get o.bindings place → slice_get o.bindings place ≡ Some b → class_of_module (module_classes b.kind) name ≡ None → class_of_module (module_classes (outer_kind o from)) name ≡ None
+no_member o from name place b found at none = ap (λ f. class_of_module (module_classes (kind_of_outer f)) name) (found ∙ at) ∙ none
+
+-- the first that passes a test
+pub find_here : {X : Type 0} (test : X → Bool) (xs : List X) (i : ℕ) (x : X) → i < length xs → x ≡ get_or xs i x → find test (take i xs) ≡ None → test x ≡ true → find test xs ≡ slice_get xs i
+find_here test [] i x h is none t = absurd (omega (arith, h))
+find_here {X} test (y ∷ xs) zero x h is none t = let s : test y ≡ true = subst (λ (z : X). test z ≡ true) is t in rw s refl
+find_here {X} test (y ∷ xs) (suc i) x h is none t = by (test y) refl none (λ n. find_here test xs i x (omega (arith, h)) is n t)
+  where
+    by : (b : Bool) → test y ≡ b → find test (y ∷ take i xs) ≡ None → (find test (take i xs) ≡ None → find test xs ≡ slice_get xs i) → find test (y ∷ xs) ≡ slice_get xs i
+    by true e n more = let gone : Some y ≡ None = rw e at n in cc (gone)
+    by false e n more = let rest : find test (take i xs) ≡ None = rw e at n in rw e (more rest)
+
+pub find_more : {X : Type 0} (test : X → Bool) (xs : List X) (i : ℕ) (x : X) → i < length xs → x ≡ get_or xs i x → find test (take i xs) ≡ None → test x ≡ false → find test (take (i + 1) xs) ≡ None
+find_more {X} test xs i x h is none t =
+    ap (find test) (take_more xs i x h ∙ ap (λ (y : X). take i xs ++ y ∷ []) (sym is))
+    ∙ (find-append test (take i xs) (x ∷ []) ∙ (ap (λ o. option_or o (find test (x ∷ []))) none ∙ rw t refl))
+
+-- one start more
+pub starts-push : (bs : List OuterBinding) (i : ℕ) (starts now : List ℕ) (start : ℕ) → now ≡ starts ++ start ∷ [] → start ≡ length (kinds_of (take i bs)) → length starts ≡ i
+    → ((place : ℕ) → place < i → slice_get starts place ≡ Some (length (kinds_of (take place bs)))) → (place : ℕ) → place < i + 1 → slice_get now place ≡ Some (length (kinds_of (take place bs)))
+starts-push bs i starts now start added is count begins place h =
+    ap (λ (xs : List ℕ). slice_get xs place) added ∙ elim (lt_or_eq place i h) [
+      | inl lt ↦ slice_get-front starts (start ∷ []) place (subst (λ n. place < n) (sym count) lt) ∙ begins place lt
+      | inr same ↦ ap (slice_get (starts ++ start ∷ [])) (same ∙ (sym count ∙ sym (add-zero (length starts)))) ∙ (slice_get-behind starts (start ∷ []) 0 ∙ (ap Some is ∙ ap (λ n. Some (length (kinds_of (take n bs)))) (sym same)))
+    ]
+  where
+    lt_or_eq : (a b : ℕ) → a < b + 1 → (a < b) ⊎ (a ≡ b)
+    lt_or_eq zero zero g = inr refl
+    lt_or_eq zero (suc b) g = inl (omega arith)
+    lt_or_eq (suc a) zero g = absurd (omega (arith, g))
+    lt_or_eq (suc a) (suc b) g = elim (lt_or_eq a b (omega (arith, g))) [ inl l ↦ inl (omega (arith, l)) | inr e ↦ inr (ap suc e) ]
+
+    add-zero : (n : ℕ) → n + 0 ≡ n
+    add-zero n = omega arith
+
+pub same_some : (a b : ℕ) → Some a ≡ Some b → a ≡ b
+same_some a b e = cc (e)
