@@ -14,11 +14,12 @@ use py_blocks::form_line::{FormLine, FormLines};
 use py_expr::line::line_form;
 use py_lexer::lex::lex;
 use py_lexer::marker::marker_line;
-use py_lexer::token::LogicalLine;
+use py_lexer::token::{LogicalLine, LogicalLines};
 use py_tree::code::Code;
 use py_tree::fault::{Fault, Stop};
 use py_tree::statement::Module;
 use py_tree::text::Text;
+use sqlite_items::Boxed;
 use std::alloc::{AllocError, Global};
 
 /// The greatest size of a file, in bytes.
@@ -82,8 +83,15 @@ pub fn parse(alloc: Global, bytes: &[u8]) -> Result<Module, Stop>
     ensures lawful { IfOk result (λ made. lawful (module_of made) ≡ true) }
 {
     let lines = lex(alloc, bytes)?;
-    let forms = forms_of(alloc, lines.as_slice())?;
+    let forms = into_forms(alloc, lines)?;
     build(alloc, forms)
+}
+
+/// The forms of the lines, whose tokens are let go before blocks are built.
+fn into_forms(alloc: Global, lines: LogicalLines) -> Result<FormLines, Stop>
+    ensures { IsFormed lines result }
+{
+    forms_of(alloc, lines.as_slice())
 }
 
 /// The forms of the lines, or the fault of the first line that has none.
@@ -92,7 +100,8 @@ fn forms_of(alloc: Global, lines: &[LogicalLine]) -> Result<FormLines, Stop>
 {
     let mut forms = FormLines::new(alloc);
     for line in lines {
-        let form = line_form(alloc, line)?;
+        let made = line_form(alloc, line)?;
+        let form = Boxed::new(alloc, made)?;
         forms.push(FormLine {
             indent: line.indent,
             line: line.line,

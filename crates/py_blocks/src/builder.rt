@@ -10,13 +10,14 @@ use crate::form_line::FormLine;
 use crate::open_block::{Block, Owner, settled};
 use lists::Items;
 use py_tree::statement::Stmts;
+use sqlite_items::Boxed;
 use std::alloc::{AllocError, Global};
 
 /// A block with the head of the next block within.
 #[derive(Drop)]
 pub(crate) struct Frame {
     block: Block,
-    owner: Owner,
+    owner: Boxed<Owner>,
 }
 
 impl Frame {
@@ -36,7 +37,7 @@ pub(crate) struct Builder {
     inner: Block,
     outer: Frames,
     /// The head in the last row, where its block is still to come.
-    waiting: Option<Owner>,
+    waiting: Option<Boxed<Owner>>,
 }
 
 impl Builder {
@@ -115,7 +116,7 @@ fn place_in(
 ) -> Result<Option<Builder>, AllocError>
     ensures { IfOk result (λ next. option_map state_of next ≡ machine.place_in (row_of row) (frames_of outer) (block_of block)) }
 {
-    match block.place(alloc, row.line, row.form)? {
+    match block.place(alloc, row.line, row.form.into_inner())? {
         Some(placed) => Ok(Some(Builder {
             inner: placed.block,
             outer,
@@ -131,14 +132,14 @@ fn below_head(
     row: FormLine,
     outer: Frames,
     inner: Block,
-    owner: Owner,
+    owner: Boxed<Owner>,
 ) -> Result<Option<Builder>, AllocError>
     ensures { IfOk result (λ next. option_map state_of next ≡ machine.below_head (row_of row) (frames_of outer) (block_of inner) (owner_of owner)) }
 {
     if row.indent <= inner.indent {
         return Ok(None);
     }
-    let context = owner.inside(inner.context);
+    let context = owner.get().inside(inner.context);
     let frame = Frame {
         block: inner,
         owner,
@@ -189,7 +190,8 @@ fn leave(alloc: Global, frame: Frame, inner: Block) -> Result<Option<Block>, All
     let Some(body) = body_of(alloc, inner)? else {
         return Ok(None);
     };
-    Ok(Some(frame.block.put(alloc, frame.owner, body)?))
+    let Frame { block, owner } = frame;
+    Ok(Some(block.put(alloc, owner.into_inner(), body)?))
 }
 
 /// The statements of a block, or none where its last can't end.

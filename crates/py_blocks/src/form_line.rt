@@ -1,5 +1,6 @@
 use lists::Items;
 use py_expr::form::Form;
+use sqlite_items::Boxed;
 
 /// The forms of a module, in the order of the text.
 pub type FormLines = Items<FormLine>;
@@ -11,5 +12,5 @@ pub struct FormLine {
     pub indent: u32,
     /// Its first physical line, from 1.
     pub line: u32,
-    pub form: Form,
+    pub form: Boxed<Form>,
 }

@@ -18,7 +18,7 @@ use std::alloc::{AllocError, Global};
 #[derive(Drop)]
 pub(crate) struct Placed {
     pub block: Block,
-    pub waiting: Option<Owner>,
+    pub waiting: Option<Boxed<Owner>>,
 }
 
 impl Block {
@@ -154,10 +154,7 @@ impl Block {
     {
         match kind {
             Some(kind) => self.holding(alloc, line, kind.into_inner(), owner),
-            None => Ok(Some(Placed {
-                block: self,
-                waiting: Some(owner),
-            })),
+            None => Ok(Some(self.waiting(alloc, owner)?)),
         }
     }
 
@@ -179,6 +176,17 @@ impl Block {
             block: self.put(alloc, owner, body)?,
             waiting: None,
         }))
+    }
+
+    /// Keeps the head, whose block is still to come.
+    fn waiting(self, alloc: Global, owner: Owner) -> Result<Placed, AllocError>
+        ensures { IfOk result (λ made. placed_of made ≡ machine.placed (block_of self) (Some (owner_of owner))) }
+    {
+        let owner = Boxed::new(alloc, owner)?;
+        Ok(Placed {
+            block: self,
+            waiting: Some(owner),
+        })
     }
 }
 

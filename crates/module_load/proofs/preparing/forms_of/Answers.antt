@@ -1,7 +1,8 @@
-use Rattle.std.proofs.Common.{◌≡◌, ◌+◌, [], drop}
+use Rattle.std.proofs.Common.{◌≡◌, ◌+◌, [], drop, Ok, sym, subst}
 use Rattle.std.proofs.lemmas.List.{drop_all}
 use Rattle.std.proofs.lemmas.Result.{err_from_is_err_and}
 use Rattle.py_blocks.specs.Rows.{rows_of}
+use Rattle.py_expr.specs.LineAnswers.{IsSo}
 use Rattle.module_load.proofs.LineForms.{at_line, further, stopped, whole}
 use Rattle.module_load.proofs.preparing.forms_of.Goals as goal
 
@@ -10,15 +11,16 @@ loop-line-preserved c =
     let lines = c.args.lines.now in
     let k = c.loop-line.line-index in
     let here = at_line lines (rows_of c.loop-line.forms) k c.line-item.result c.loop-line-test.true c.line-item.is c.loop-line.invariant in
-    further lines (drop (k + 1) lines) c.line-item.result c.loop-line.forms c.push.new.self c.in_ok-form.form here c.in_ok-form.ensures.so c.in_ok-push.ensures.ok
+    further lines (drop (k + 1) lines) c.line-item.result c.loop-line.forms c.push.new.self c.in_ok-form.form here
+    (subst (λ form. IsSo c.line-item.result.tokens c.line-item.result.line (Ok form)) (sym c.in_ok-form.ensures) c.in_ok-made.ensures.so) c.in_ok-push.ensures.ok
 
-pub returns-in_err-form : goal.returns-in_err-form
-returns-in_err-form c =
+pub returns-in_err-made : goal.returns-in_err-made
+returns-in_err-made c =
     let lines = c.args.lines.now in
     let k = c.loop-line.line-index in
     let here = at_line lines (rows_of c.loop-line.forms) k c.line-item.result c.loop-line-test.true c.line-item.is c.loop-line.invariant in
     let p = err_from_is_err_and c.from_residual.result c.from_residual.ensures.1 in
-    rw (p.1, p.2) (stopped lines (drop (k + 1) lines) c.line-item.result (rows_of c.loop-line.forms) c.in_err-form.field-0.0 here c.in_err-form.ensures.so)
+    rw (p.1, p.2) (stopped lines (drop (k + 1) lines) c.line-item.result (rows_of c.loop-line.forms) c.in_err-made.field-0.0 here c.in_err-made.ensures.so)
 
 pub returns : goal.returns
 returns c =
