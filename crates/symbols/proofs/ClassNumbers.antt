@@ -1,10 +1,10 @@
 -- Numbers of classes.
-use Rattle.std.proofs.Common.{◌≡◌, ◌∙◌, ◌+◌, ◌<◌, ◌⊎◌, inl, inr, ℕ, zero, suc, Bool, true, false, List, [], ◌∷◌, ◌++◌, length, take, drop, map, Option, Some, None, refl, sym, ap, subst, arith, ◌≤◌, ◌==◌, get_or, append_assoc}
+use Rattle.std.proofs.Common.{◌≡◌, ◌∙◌, ◌+◌, ◌<◌, ◌⊎◌, inl, inr, ℕ, zero, suc, Bool, true, false, List, [], ◌∷◌, ◌++◌, length, take, drop, Option, Some, refl, sym, ap, subst, arith, ◌≤◌, ◌==◌, get_or, append_assoc}
 use Rattle.std.proofs.Math.ListN.{set}
 use Rattle.std.proofs.lemmas.Bool.{eqb-true, eqb-false}
 use Rattle.std.proofs.lemmas.List.{append-nil, drop_all, get_or-set_other, get_or-set_same, length-set, length-take-le, take_more}
 use Rattle.std.specs.Prelude.{slice_get}
-use Rattle.std.specs.List.{Contains, flat_map}
+use Rattle.std.specs.List.{Contains}
 use Rattle.std.specs.List.Sorted.{IsPermutation}
 use Rattle.std.proofs.lemmas.List.Elements.{Contains-append_left, Contains-push, Contains-push_cases}
 use Rattle.std.proofs.lemmas.List.Sorted.{Contains-permutation, IsPermutation-sym}
@@ -19,7 +19,7 @@ use Rattle.symbols.specs.BaseKinds as base
 use Rattle.symbols.specs.Classes.{Found, base_or, is_bad, kind_of_found}
 use Rattle.symbols.specs.ClassOrders.{IsOrder}
 use Rattle.symbols.specs.ClassViews.{base_at, founds, joined}
-use Rattle.symbols.specs.Faults.{bad_lines, clash, clash_lines}
+use Rattle.symbols.specs.Faults.{bad_lines, clash_lines}
 use Rattle.symbols.specs.Lineages.{clash_at, clash_of}
 use Rattle.symbols.specs.SpecialNames.{at}
 use Rattle.symbols.proofs.ClassLists.{length-joined_behind}

@@ -1,9 +1,9 @@
 -- Classes from one without a base on, each the base of the next.
-use Rattle.std.proofs.Common.{◌≡◌, ◌∙◌, ◌+◌, ◌-◌, ◌<◌, ◌≤◌, ◌||◌, ◌⊎◌, inl, inr, ℕ, zero, suc, Bool, true, false, List, [], ◌∷◌, ◌++◌, map, length, take, Option, Some, None, refl, sym, ap, subst, arith, nat_lt, append_assoc, not, zero-add}
+use Rattle.std.proofs.Common.{◌≡◌, ◌∙◌, ◌+◌, ◌-◌, ◌<◌, ◌≤◌, ◌||◌, ℕ, zero, suc, Bool, true, false, List, [], ◌∷◌, ◌++◌, length, take, Option, Some, None, refl, sym, ap, subst, arith, nat_lt, append_assoc, not, zero-add}
 use Rattle.std.proofs.Math.Seq.{take-nil}
 use Rattle.std.proofs.lemmas.Bool.{lt-ltb}
 use Rattle.std.proofs.lemmas.List.{append-nil, map-append}
-use Rattle.std.specs.Prelude.{slice_get, if◌then◌else◌}
+use Rattle.std.specs.Prelude.{slice_get}
 use Rattle.std.specs.List.{flat_map, list_any, filter}
 use Rattle.std.specs.Str.{bytes_eq}
 use Rattle.std.proofs.lemmas.List.Folds.{list_any-append}
@@ -22,7 +22,7 @@ use Rattle.symbols.specs.Bindings.{first_mentions}
 use Rattle.symbols.specs.Classes.{Found, base_methods, base_or, base_slots, kind_of_found}
 use Rattle.symbols.specs.ClassViews.{base_at, founds, joined, joined_behind}
 use Rattle.symbols.specs.Lineages.{Climbs, Descends, Knows, above, base_of_own, clash_at, clash_of, kind_of, last_clashes, last_or, methods_at, methods_of_own, places_of, slots_at, slots_of_own}
-use Rattle.symbols.specs.Tallies.{is_same, times}
+use Rattle.symbols.specs.Tallies.{times}
 use Rattle.symbols.specs.Words.{among}
 use Rattle.symbols.proofs.Sets.{bytes_eq-swap}
 

@@ -1,7 +1,7 @@
 -- Where the classes of imports stand among those of all.
-use Rattle.std.proofs.Common.{◌≡◌, ◌∙◌, ◌+◌, ◌<◌, ℕ, Bool, true, false, zero, suc, List, [], ◌∷◌, ◌++◌, map, length, take, Option, Some, None, refl, sym, ap, subst, append_assoc, arith, length-append, get_or, zero-add, add_assoc, ◌⊎◌, inl, inr}
+use Rattle.std.proofs.Common.{◌≡◌, ◌∙◌, ◌+◌, ◌<◌, ℕ, Bool, true, false, zero, suc, List, [], ◌∷◌, ◌++◌, length, take, Some, None, refl, sym, ap, subst, append_assoc, arith, length-append, get_or, zero-add, add_assoc, ◌⊎◌, inl, inr}
 use Rattle.std.specs.Prelude.{slice_get}
-use Rattle.std.specs.List.{find, flat_map}
+use Rattle.std.specs.List.{find}
 use Rattle.std.specs.Str.{bytes_eq}
 use Rattle.std.specs.Option.{option_map, option_or}
 use Rattle.std.proofs.lemmas.List.Folds.{find-append}
@@ -11,12 +11,10 @@ use Rattle.py_tree.specs.Syntax.{Text}
 use Rattle.symbols.specs.declared.class.ClassKind.{ClassKind}
 use Rattle.symbols.specs.declared.outer.Outer.{Outer}
 use Rattle.symbols.specs.declared.outer.OuterBinding.{OuterBinding}
-use Rattle.symbols.specs.declared.outer.OuterKind.{OuterKind}
 use Rattle.symbols.specs.declared.outer.OuterKind.TheVariants as outer
 use Rattle.symbols.specs.declared.outer.ModuleClass.{ModuleClass}
 use Rattle.symbols.specs.Classes.{class_kind, class_of_module, kind_of_member, kind_of_outer, module_classes, outer_kind}
 use Rattle.symbols.specs.ClassViews.{StandsAt, kinds_in, kinds_of}
-use Rattle.symbols.specs.Places.{IsPlace}
 
 pub slice_get-front : {X : Type 0} (xs ys : List X) (i : ℕ) → i < length xs → slice_get (xs ++ ys) i ≡ slice_get xs i
 slice_get-front [] ys i h = absurd (omega (arith, h))

@@ -12,7 +12,6 @@ use Rattle.symbols.specs.declared.lineage.Lineage.{Lineage}
 use Rattle.symbols.specs.BasePlaces.{standing}
 use Rattle.symbols.specs.BaseKinds as base
 use Rattle.symbols.specs.BaseKinds.{Base}
-use Rattle.symbols.specs.Classes.{base_methods, base_slots}
 use Rattle.symbols.specs.ClassViews.{base_at, founds}
 use Rattle.symbols.specs.Faults.{clash}
 use Rattle.symbols.specs.Tallies.{count, times}

@@ -1,6 +1,6 @@
-use Rattle.std.proofs.Common.{◌≡◌, ◌∙◌, ap, subst, sym, Some}
+use Rattle.std.proofs.Common.{subst, Some}
 use Rattle.symbols.specs.BaseKinds as base
-use Rattle.symbols.specs.Classes.{base_or, class_of_module, module_classes, outer_kind}
+use Rattle.symbols.specs.Classes.{class_of_module, module_classes, outer_kind}
 use Rattle.symbols.specs.ClassViews.{StandsAt, kinds_of}
 use Rattle.symbols.proofs.ClassLists.{is_imported}
 use Rattle.symbols.proofs.bases.module_base.Goals as goal

@@ -1,8 +1,8 @@
 -- A class that stands earlier comes first, then an imported one, and then those of the language.
-use Rattle.std.proofs.Common.{◌≡◌, ◌∙◌, ap, subst, sym, Option, Some, None, ℕ}
+use Rattle.std.proofs.Common.{◌≡◌, ◌∙◌, ap, subst, sym, Some, None}
 use Rattle.std.specs.Option.{option_or}
 use Rattle.symbols.specs.Classes.{base_or, class_kind, earlier_class, outer_kind, own_base}
-use Rattle.symbols.specs.ClassViews.{StandsAt, found_at, kinds_found, kinds_of}
+use Rattle.symbols.specs.ClassViews.{StandsAt, found_at, kinds_of}
 use Rattle.symbols.proofs.ClassLists.{is_earlier, is_imported}
 use Rattle.symbols.proofs.bases.named_base.Goals as goal
 

@@ -1,4 +1,4 @@
-use Rattle.std.proofs.Common.{◌∙◌, ap, sym}
+use Rattle.std.proofs.Common.{◌∙◌, ap}
 use Rattle.symbols.specs.Classes.{base_or, kind_of_exception, object_or_bad}
 use Rattle.symbols.proofs.bases.own_base.Goals as goal
 

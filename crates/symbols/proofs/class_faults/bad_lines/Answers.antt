@@ -1,5 +1,5 @@
 -- One class on, and at the end.
-use Rattle.std.proofs.Common.{◌≡◌, ◌∙◌, ◌+◌, ◌++◌, drop, length, List, arith, ap, refl, sym, subst, Some, ℕ, ◌≤◌}
+use Rattle.std.proofs.Common.{◌≡◌, ◌∙◌, ◌+◌, ◌++◌, drop, length, List, ap, refl, sym, subst, Some, ℕ, ◌≤◌}
 use Rattle.std.specs.Prelude.{slice_get}
 use Rattle.symbols.specs.declared.class.OwnClass.{OwnClass}
 use Rattle.symbols.specs.ClassViews.{founds}

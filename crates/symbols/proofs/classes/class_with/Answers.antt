@@ -1,5 +1,5 @@
 -- The base, the slots and the methods are those that the definition says.
-use Rattle.std.proofs.Common.{◌≡◌, ◌∙◌, ap, refl, sym}
+use Rattle.std.proofs.Common.{◌≡◌, ◌∙◌, ap, refl}
 use Rattle.std.specs.List.{flat_map}
 use Rattle.py_tree.specs.Joined.{maybe_of, statements_of}
 use Rattle.py_tree.specs.Order.{of_scope}

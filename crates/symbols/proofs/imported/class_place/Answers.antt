@@ -1,4 +1,4 @@
-use Rattle.std.proofs.Common.{◌≡◌, ◌∙◌, sym}
+use Rattle.std.proofs.Common.{◌∙◌, sym}
 use Rattle.std.specs.Str.{bytes_eq}
 use Rattle.symbols.specs.declared.outer.ModuleClass.{ModuleClass}
 use Rattle.symbols.proofs.ImportedKinds.{find_here, find_more}

@@ -1,5 +1,3 @@
-use Rattle.std.proofs.Common.{length, ◌≤◌}
-use Rattle.symbols.specs.BasePlaces.{imported_bound}
 use Rattle.symbols.proofs.class_table.ClassTable.into_found.Goals as goal
 
 pub invariant_of-result : goal.invariant_of-result

@@ -1,6 +1,5 @@
 -- A class more stands behind the others, under its name.
-use Rattle.std.proofs.Common.{◌≡◌, ◌∙◌, ap, sym, subst, List, length, ◌++◌, ◌∷◌, []}
-use Rattle.symbols.specs.declared.class.OwnClass.{OwnClass}
+use Rattle.std.proofs.Common.{◌≡◌, ◌∙◌, ap, sym, subst, length, ◌++◌, ◌∷◌, []}
 use Rattle.symbols.specs.BasePlaces.{ArePlaced, IsPlaced}
 use Rattle.symbols.specs.ClassViews.{Tabled, found_at, found_in, joined_last, kinds_of, joined}
 use Rattle.symbols.specs.Places.{class_name}

@@ -1,5 +1,5 @@
 -- The class of the first binding of the name.
-use Rattle.std.proofs.Common.{◌≡◌, ◌∙◌, ap, sym, subst, List, Option, ℕ, Some, take, length, refl}
+use Rattle.std.proofs.Common.{◌≡◌, ◌∙◌, ap, sym, subst, List, ℕ, Some, take, length, refl}
 use Rattle.std.specs.Prelude.{slice_get}
 use Rattle.std.specs.Str.{bytes_eq}
 use Rattle.symbols.specs.declared.outer.Outer.{Outer}

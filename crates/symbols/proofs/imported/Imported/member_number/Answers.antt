@@ -1,9 +1,7 @@
 -- The class of a module of the first binding of the name.
-use Rattle.std.proofs.Common.{◌≡◌, ◌∙◌, ◌+◌, ◌<◌, ap, sym, subst, List, Option, ℕ, Some, take, length, refl}
+use Rattle.std.proofs.Common.{◌≡◌, ◌∙◌, ◌+◌, ◌<◌, ap, sym, subst, List, ℕ, Some, take, length}
 use Rattle.std.specs.Prelude.{slice_get}
-use Rattle.std.specs.List.{find}
 use Rattle.std.specs.Str.{bytes_eq}
-use Rattle.symbols.specs.declared.class.ClassKind.{ClassKind}
 use Rattle.symbols.specs.declared.outer.ModuleClass.{ModuleClass}
 use Rattle.symbols.specs.declared.outer.Outer.{Outer}
 use Rattle.symbols.specs.declared.outer.OuterBinding.{OuterBinding}

@@ -1,8 +1,8 @@
 -- The names of the class are counted, and it clashes where the counts say so.
-use Rattle.std.proofs.Common.{◌≡◌, ◌∙◌, ◌+◌, ◌||◌, ap, refl, sym, subst, List, nat_lt}
-use Rattle.std.specs.List.{flat_map, list_any}
+use Rattle.std.proofs.Common.{◌∙◌, ◌+◌, ◌||◌, ap, sym, subst, nat_lt}
+use Rattle.std.specs.List.{list_any}
 use Rattle.py_tree.specs.Syntax.{Text}
-use Rattle.symbols.specs.Lineages.{Knows, clash_at, last_clashes, methods_at, places_of, slots_at}
+use Rattle.symbols.specs.Lineages.{Knows, last_clashes, methods_at, slots_at}
 use Rattle.symbols.specs.Tallies.{count, times}
 use Rattle.symbols.proofs.Descents.{clash-entered, count-entered, descends-entered, knows-push, last-entered}
 use Rattle.symbols.proofs.lineage.Lineage.enter.Goals as goal

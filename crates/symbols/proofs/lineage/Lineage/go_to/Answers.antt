@@ -1,5 +1,5 @@
 -- Down by the classes that were climbed.
-use Rattle.std.proofs.Common.{◌≡◌, ◌∙◌, List, Bor, sym, subst}
+use Rattle.std.proofs.Common.{◌∙◌, List, Bor, sym, subst}
 use Rattle.symbols.specs.declared.class.BasePlace.{BasePlace}
 use Rattle.symbols.specs.declared.class.BasePlace.TheVariants.{None as NoPlace}
 use Rattle.symbols.specs.declared.class_list.FoundClasses.{FoundClasses}

@@ -1,4 +1,4 @@
-use Rattle.std.proofs.Common.{◌≡◌, ◌∙◌, ◌++◌, ◌∷◌, [], List, ap, refl, sym, subst, inr, rules}
+use Rattle.std.proofs.Common.{◌≡◌, ◌∙◌, ◌++◌, ◌∷◌, [], List, ap, sym, subst, inr, rules}
 use Rattle.std.specs.List.{flat_map}
 use Rattle.symbols.specs.declared.class.BasePlace.TheVariants.{None as NoPlace}
 use Rattle.symbols.specs.Tallies.{times}
