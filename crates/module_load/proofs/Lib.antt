@@ -1,6 +1,7 @@
 pub mod Places
 pub mod LineForms
 pub mod OneState
+pub mod SomeState
 pub mod OneParse
 pub mod Phases
 pub mod Examples

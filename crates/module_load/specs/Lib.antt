@@ -1,6 +1,7 @@
 pub mod Sources
 pub mod Markers
 pub mod Preparing
+pub mod EveryFile
 pub mod Parsing
 pub mod Folders
 pub mod NamePlaces

@@ -1,3 +1,4 @@
+ghost use Rattle.module_load.specs.EveryFile.{EveryFile};
 ghost use Rattle.module_load.specs.Markers.{OnePlace};
 ghost use Rattle.module_load.specs.Preparing.{AtMostOneState};
 ghost use Rattle.module_load.specs.Right.{KnownExactly, RightIsRight, RightOfFiles};
@@ -6,6 +7,11 @@ ghost use Rattle.module_load.specs.RightDecisions.{OneDecision};
 /// Bytes prepare to at most one state.
 pub fn one_state()
     ensures { AtMostOneState }
+{}
+
+/// The other half of it: bytes prepare to a state.
+pub fn every_file()
+    ensures { EveryFile }
 {}
 
 /// A module is marked by the test exactly where a marker stands in its place.
