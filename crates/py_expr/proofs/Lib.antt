@@ -1,4 +1,5 @@
 pub mod OneForm
+pub mod SomeForm
 pub mod ForNames
 pub mod FoundAt
 pub mod Shorter
