@@ -1,5 +1,5 @@
-use key_map::map::KeyMap;
 use key_map::key::{Key, KeyText, Keys};
+use key_map::map::KeyMap;
 use std::alloc::{AllocError, Global};
 use std::test::Fail;
 
@@ -46,5 +46,17 @@ fn keys_are_found_by_what_they_hold(rt: HostRuntime) -> Result<(), Fail> {
     assert_eq!(rt; map.find(&key), Some(&5));
     assert_eq!(rt; map.find(&pair(alloc, Key::Int(0), Key::Int(0))?), None);
     assert_eq!(rt; map.find(&Key::Int(1)), None);
+    Ok(())
+}
+
+#[test]
+fn keys_are_copied_and_ordered(rt: HostRuntime) -> Result<(), Fail> {
+    let mut map = KeyMap::new(rt.alloc());
+    map.put(Key::Int(1), 'a', 'b')?;
+    assert!(rt; map.key_at(0).is_some_and(|key| *key == Key::Int(1)));
+    assert!(rt; map.key_at(1).is_none());
+    assert!(rt; Key::Int(1).copy(rt.alloc())? == Key::Int(1));
+    assert!(rt; Key::Nil < Key::Int(-1));
+    assert!(rt; Key::Int(2) < Key::Int(3));
     Ok(())
 }

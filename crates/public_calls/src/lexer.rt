@@ -18,7 +18,6 @@ fn has_no_line_behind_the_last_line_feed(rt: HostRuntime) {
     }
 }
 
-
 #[test]
 fn takes_identifiers_in_their_composed_form(rt: HostRuntime) -> Result<(), Fail> {
     let cases = [

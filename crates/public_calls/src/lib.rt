@@ -8,6 +8,8 @@ mod disk_folder;
 #[cfg(test)]
 mod folders;
 #[cfg(test)]
+mod globals;
+#[cfg(test)]
 mod graph;
 #[cfg(test)]
 mod imports;

@@ -4,6 +4,9 @@ ghost use Rattle.std.specs.Arc.{arc_value};
 ghost use Rattle.registry_core.specs.Slots.{slot_at};
 ghost use Rattle.registry_core.specs.Named.{module_count, IsNeedOf};
 
+use import_graph::graph::{build_graph, is_graph};
+use import_graph::rows::{DirectImport, GraphRow, GraphRows};
+use lists::{ElementAt, Items};
 use registry_core::claim::{Claim, ClaimAnswer};
 use registry_core::imports::Imports;
 use registry_core::loads::Loads;
@@ -11,9 +14,6 @@ use registry_core::naming::Naming;
 use registry_core::registry::Registry;
 use registry_core::slot::{Event, EventKind, Slot};
 use registry_core::sources::Sources;
-use import_graph::graph::{build_graph, is_graph};
-use import_graph::rows::{DirectImport, GraphRow, GraphRows};
-use lists::{ElementAt, Items};
 use std::alloc::{AllocError, Global};
 use std::marker::Brand;
 use std::process::Abort;
@@ -41,12 +41,15 @@ impl Loads for Flags {
 
     ghost is_right = { λ loads all m list verdict. verdict ≡ (slice_index_or all.list m false || list_any (λ p. p.1) list) };
 
+    ghost is_loadable = { λ loads all. Unit {0} };
+
     ghost is_refused = { λ verdict. verdict };
 
     ghost right_data = { λ loads all m list verdict h. h };
 
     fn load(
         &self,
+        _alloc: Global,
         all: &Sources<bool>,
         module: u32,
         imports: &Imports<bool>,
@@ -78,13 +81,14 @@ fn decide<L: Loads, N: Naming<L, L::Source>>(
 ) -> Result<(), AllocError>
     requires loads { N.loads ≡ Some loads.now }
     requires sources { N.sources ≡ Some all.now }
+    requires loadable { L.is_loadable loads.now all.now }
     requires there { claim.module < module_count N.Naming.own }
     requires slot { slot_at registry.old.slots claim.module ≡ Slot.Claimed claim.loader }
     requires share { 1 ≤ share.old.amount }
     requires imports { IsNeedOf L.Loads N.Naming.own claim.module imports.now.rows }
     ensures parts { share.new.parts ≡ share.old.parts }
 {
-    let Ok(verdict) = loads.load(all, claim.module, imports) else {
+    let Ok(verdict) = loads.load(alloc, all, claim.module, imports) else {
         registry.withdraw(share, claim);
         return Err(AllocError);
     };
@@ -113,6 +117,7 @@ fn decide_next<L: Loads, N: Naming<L, L::Source>, R: Abort>(
 ) -> Result<bool, AllocError>
     requires loads { N.loads ≡ Some loads.now }
     requires sources { N.sources ≡ Some all.now }
+    requires loadable { L.is_loadable loads.now all.now }
     requires part { 0 < share.old.parts }
     requires room { module_count N.Naming.own ≤ into.old.room }
     ensures parts { share.new.parts ≡ share.old.parts }

@@ -53,27 +53,55 @@ fn assert_run(
 fn a_report_is_written_piece_by_piece(rt: HostRuntime) -> Result<(), Fail> {
     let folder = folder_of(&rt, "import __strict__\nX = 1\n", &[])?;
     let report = "module a published 1\n";
-    assert_run(&rt, "d", folder, sink(rt.alloc(), &[])?, Status::Done, report)?;
+    assert_run(
+        &rt,
+        "d",
+        folder,
+        sink(rt.alloc(), &[])?,
+        Status::Done,
+        report,
+    )?;
     Ok(())
 }
 
 #[test]
 fn words_that_are_not_taken_are_reported(rt: HostRuntime) -> Result<(), Fail> {
     let folder = folder_of(&rt, "", &[])?;
-    assert_run(&rt, "-d", folder, sink(rt.alloc(), &[])?, Status::BadWords, "bad words\n")?;
+    assert_run(
+        &rt,
+        "-d",
+        folder,
+        sink(rt.alloc(), &[])?,
+        Status::BadWords,
+        "bad words\n",
+    )?;
     Ok(())
 }
 
 #[test]
 fn nothing_is_written_where_the_folder_fails(rt: HostRuntime) -> Result<(), Fail> {
     let folder = folder_of(&rt, "", &[2])?;
-    assert_run(&rt, "d", folder, sink(rt.alloc(), &[])?, Status::FolderFault, "")?;
+    assert_run(
+        &rt,
+        "d",
+        folder,
+        sink(rt.alloc(), &[])?,
+        Status::FolderFault,
+        "",
+    )?;
     Ok(())
 }
 
 #[test]
 fn a_sink_that_fails_has_the_first_bytes(rt: HostRuntime) -> Result<(), Fail> {
     let folder = folder_of(&rt, "import __strict__\n", &[])?;
-    assert_run(&rt, "d", folder, sink(rt.alloc(), &[2])?, Status::SinkFault, "module a")?;
+    assert_run(
+        &rt,
+        "d",
+        folder,
+        sink(rt.alloc(), &[2])?,
+        Status::SinkFault,
+        "module a",
+    )?;
     Ok(())
 }

@@ -1,7 +1,7 @@
 ghost use Rattle.heap_seg.specs.declared.rules.Answer.TheVariants as answer;
 ghost use Rattle.py_tree.specs.declared.code.Code.TheVariants as code;
 
-use heap_seg::object::{Change, Object};
+use heap_seg::object::{Change, Object, Values};
 use heap_seg::rules::{Answer, Rules};
 use heap_seg::segment::Segment;
 use key_map::key::Key;
@@ -11,6 +11,7 @@ use py_tree::text::Text;
 use py_values::class_id::ClassId;
 use py_values::exception::ExcKind;
 use py_values::value::{Home, Value};
+use std::alloc::{AllocError, Global};
 use std::test::Fail;
 
 const HOME: Home = Home::Module(2);
@@ -107,25 +108,53 @@ fn a_slot_is_set(rt: HostRuntime) -> Result<(), Fail> {
     Ok(())
 }
 
-#[test]
-fn globals_and_default_values_are_kept(rt: HostRuntime) -> Result<(), Fail> {
-    let alloc = rt.alloc();
-    let mut segment = Segment::new(alloc, Home::Run);
+fn names_x_and_y(alloc: Global) -> Result<Texts, AllocError> {
     let mut names = Texts::new(alloc);
     names.push(Text::from_str(alloc, "x")?)?;
     names.push(Text::from_str(alloc, "y")?)?;
-    segment.open_globals(&names)?;
+    Ok(names)
+}
+
+#[test]
+fn globals_are_set_and_unbound(rt: HostRuntime) -> Result<(), Fail> {
+    let alloc = rt.alloc();
+    let mut segment = Segment::new(alloc, Home::Run);
+    assert_eq!(rt; segment.home(), Home::Run);
+    assert_eq!(rt; segment.len(), 0);
+    segment.open_globals(&names_x_and_y(alloc)?)?;
+    segment.set_global(0, Value::Int(6));
     segment.set_global(1, Value::Int(7));
-    segment.set_default(3, 0, Value::Int(8))?;
-    segment.set_default(3, 0, Value::Int(9))?;
-    assert_eq!(rt; segment.default_value(3, 0), Some(Value::Int(9)));
-    assert_eq!(rt; segment.default_value(0, 3), None);
+    assert_eq!(rt; segment.global(0), Some(Value::Int(6)));
+    segment.unset_global(0);
     let globals = segment.take_globals();
     assert_eq!(rt; globals.len(), 2);
     assert_eq!(rt; globals.at(0).value, None);
     assert_eq!(rt; globals.at(1).value, Some(Value::Int(7)));
     assert!(rt; globals.at(1).name.same(&Text::from_str(alloc, "y")?));
     assert_eq!(rt; segment.take_globals().len(), 0);
+    Ok(())
+}
+
+#[test]
+fn a_default_value_is_set_again(rt: HostRuntime) -> Result<(), Fail> {
+    let mut segment = Segment::new(rt.alloc(), Home::Run);
+    segment.set_default(3, 0, Value::Int(8))?;
+    segment.set_default(3, 0, Value::Int(9))?;
+    assert_eq!(rt; segment.default_value(3, 0), Some(Value::Int(9)));
+    assert_eq!(rt; segment.default_value(0, 3), None);
+    assert!(rt; segment.default_at(0).is_some());
+    assert!(rt; segment.default_at(1).is_none());
+    Ok(())
+}
+
+#[test]
+fn lists_and_texts_are_taken_over(rt: HostRuntime) -> Result<(), Fail> {
+    let alloc = rt.alloc();
+    let mut segment = Segment::new(alloc, HOME);
+    segment.make_list_of(Values::from_slice(alloc, &[Value::Int(1)])?)?;
+    segment.make_text_of(Text::from_str(alloc, "a")?)?;
+    assert!(rt; items(segment.get(0)) == [Value::Int(1)].as_slice());
+    assert!(rt; matches!(segment.get(1), Object::Text(text) if text.len() == 1));
     Ok(())
 }
 

@@ -16,7 +16,6 @@ fn takes_so_many_bytes_and_fails_when_told(rt: HostRuntime) -> Result<(), Fail> 
     Ok(())
 }
 
-
 #[test]
 fn writes_a_piece_and_answers_its_length(rt: HostRuntime) {
     let mut sink = StdoutSink::new(&rt);

@@ -41,7 +41,9 @@ fn push(out: &mut String, text: &str) -> Result<(), AllocError> {
 /// The control character of a picture. Any other character stands for itself.
 fn pictured(character: char) -> char {
     match character {
-        '\u{2400}'..='\u{241f}' => char::from_u32(u32::from(character) - 0x2400).unwrap_or(character),
+        '\u{2400}'..='\u{241f}' => char::from_u32(u32::from(character) - 0x2400).unwrap_or(
+            character,
+        ),
         _ => character,
     }
 }

@@ -3,7 +3,6 @@ use py_tree::statement::{Branch, Clause, Module, Stmt, StmtKind};
 use std::alloc::Global;
 use std::fmt::Write;
 
-
 /// The statements of a module in the order of the text: each as its line and what it is, with its blocks in braces. A branch of an `if`
 /// stands behind `at` and its line.
 pub fn shape(alloc: Global, module: &Module) -> Result<String> {

@@ -1,7 +1,7 @@
 use crate::atoms::{applied, quoted, read};
 use crate::cells::spelled;
 use crate::modules::{file, formed, marker, spelled_module};
-use crate::names::{Listed, listed};
+use crate::names::{NameList, listed};
 use crate::tokens::lexed;
 use anyhow::Result;
 use std::alloc::Global;
@@ -23,7 +23,7 @@ pub enum Subject {
     /// What a module's file is.
     File,
     /// What the names of a module are.
-    Names(Listed),
+    Names(NameList),
     /// The `repr` of a text.
     Repr,
     /// The `int` that a text spells.
@@ -32,29 +32,24 @@ pub enum Subject {
     Operator,
 }
 
-pub const TABLES: [(&str, Subject); 14] = [
+pub const TABLES: [(&str, Subject); 13] = [
     ("tokens.txt", Subject::Tokens),
     ("markers.txt", Subject::Marker),
     ("lines.txt", Subject::Form),
     ("blocks.txt", Subject::Module),
     ("files.txt", Subject::File),
-    ("kinds.txt", Subject::Names(Listed::Kind)),
-    ("globals.txt", Subject::Names(Listed::Globals)),
-    ("classes.txt", Subject::Names(Listed::Classes)),
-    ("locals.txt", Subject::Names(Listed::Locals)),
-    ("statics.txt", Subject::Names(Listed::Statics)),
-    ("faults.txt", Subject::Names(Listed::Nothing)),
+    ("kinds.txt", Subject::Names(NameList::Kind)),
+    ("globals.txt", Subject::Names(NameList::Globals)),
+    ("locals.txt", Subject::Names(NameList::Locals)),
+    ("statics.txt", Subject::Names(NameList::Statics)),
+    ("faults.txt", Subject::Names(NameList::Nothing)),
     ("reprs.txt", Subject::Repr),
     ("int_texts.txt", Subject::IntText),
     ("operators.txt", Subject::Operator),
 ];
 
 /// Runs the rows of a table. A row is a text and what is made of it, with a tab between them; a line without a tab is a heading.
-pub fn check(
-    rt: &(impl Files + Print + AllocGlobal),
-    name: &str,
-    subject: Subject,
-) -> Result<()> {
+pub fn check(rt: &(impl Files + Print + AllocGlobal), name: &str, subject: Subject) -> Result<()> {
     let table = fs::read_to_string(rt, name)?;
     let mut rows: u64 = 0;
     for line in table.lines() {
