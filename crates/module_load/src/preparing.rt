@@ -14,7 +14,7 @@ use py_blocks::form_line::{FormLine, FormLines};
 use py_expr::line::line_form;
 use py_lexer::lex::lex;
 use py_lexer::marker::marker_line;
-use py_lexer::token::{LogicalLine, LogicalLines};
+use py_lexer::token::LogicalLine;
 use py_tree::code::Code;
 use py_tree::fault::{Fault, Stop};
 use py_tree::statement::Module;
@@ -83,15 +83,8 @@ pub fn parse(alloc: Global, bytes: &[u8]) -> Result<Module, Stop>
     ensures lawful { IfOk result (λ made. lawful (module_of made) ≡ true) }
 {
     let lines = lex(alloc, bytes)?;
-    let forms = into_forms(alloc, lines)?;
+    let forms = forms_of(alloc, lines.as_slice())?;
     build(alloc, forms)
-}
-
-/// The forms of the lines, whose tokens are let go before blocks are built.
-fn into_forms(alloc: Global, lines: LogicalLines) -> Result<FormLines, Stop>
-    ensures { IsFormed lines result }
-{
-    forms_of(alloc, lines.as_slice())
 }
 
 /// The forms of the lines, or the fault of the first line that has none.
