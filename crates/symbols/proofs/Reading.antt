@@ -169,3 +169,15 @@ method_nowhere all p name h = sym (ap (λ q. among name (base_methods (kind_of a
 
 pub count_is : (all : FoundClasses) → length (classes_in (founds all)) ≡ length all.own
 count_is all = length-map (founds all) (λ (f : Found). f.class) ∙ length-joined_behind all.home all.others all.own []
+
+pub slots_are : (all : FoundClasses) (n : ℕ) (name : Text) (has : Bool) → n < length (classes_in (founds all)) → has ≡ among name (base_slots (kind_of all (place.Earlier n))) → option_map (λ (x : Class). among name x.kind.slots) (slice_get (classes_in (founds all)) n) ≡ Some has
+slots_are all n name has h e =
+    let f = there (founds all) n (subst (λ m. n < m) (length-map (founds all) (λ (x : Found). x.class)) h) in
+    ap (option_map (λ (x : Class). among name x.kind.slots)) (slice_get-map (λ (x : Found). x.class) (founds all) n ∙ ap (option_map (λ (x : Found). x.class)) f.1)
+    ∙ ap Some (sym (e ∙ ap (λ (o : Option Found). among name (base_slots (base_or (kind_of_found o) base.Bad))) f.1))
+
+pub methods_are : (all : FoundClasses) (n : ℕ) (name : Text) (has : Bool) → n < length (classes_in (founds all)) → has ≡ among name (base_methods (kind_of all (place.Earlier n))) → option_map (λ (x : Class). among name x.kind.methods) (slice_get (classes_in (founds all)) n) ≡ Some has
+methods_are all n name has h e =
+    let f = there (founds all) n (subst (λ m. n < m) (length-map (founds all) (λ (x : Found). x.class)) h) in
+    ap (option_map (λ (x : Class). among name x.kind.methods)) (slice_get-map (λ (x : Found). x.class) (founds all) n ∙ ap (option_map (λ (x : Found). x.class)) f.1)
+    ∙ ap Some (sym (e ∙ ap (λ (o : Option Found). among name (base_methods (base_or (kind_of_found o) base.Bad))) f.1))

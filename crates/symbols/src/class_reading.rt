@@ -85,12 +85,7 @@ impl FoundClasses {
     }
 
     /// The slots of the class at a place and of those above it, each once.
-    fn all_slots(
-        &self,
-        alloc: Global,
-        place: BasePlace,
-        args: &[Text],
-    ) -> Result<Texts, AllocError>
+    fn all_slots(&self, alloc: Global, place: BasePlace, args: &[Text]) -> Result<Texts, AllocError>
         requires { args.now ≡ codes "args" ∷ [] }
         ensures { IfOk result (λ all. all ≡ first_mentions (base_slots (kind_of self.now place))) }
     {
