@@ -1,7 +1,7 @@
 #!/usr/bin/env python3
-"""Times `resolve` on modules of growing size: of many distinct names, and of classes that each have the one before as their base. It
-prints a row of a table for each kind of module: the milliseconds of the processor, and how many times the longest takes as long as
-half of it. It builds the program below over a copy of the crates that it needs."""
+"""Times `resolve` on modules of growing size, of about 1 MiB at the most: of many distinct names, and of classes in chains, combs and
+stars. It prints a row of a table for each kind of module: the milliseconds of the processor, and the microseconds a line of the
+longest over those of the one before. It builds the program below over a copy of the crates that it needs."""
 import re, sys
 from measuring import printed
 
@@ -55,14 +55,38 @@ def distinct(size):
     return "".join(f"name_{n:010} = 1\n" for n in range(size))
 
 
-def derived(size):
-    """So many classes, each below the one before."""
-    return "class C0: pass\n" + "".join(f"class C{n}(C{n - 1}): pass\n" for n in range(1, size))
+def chain(size, member):
+    """So many classes, each below the one before, with a member each."""
+    return f"class C0:\n {member}0{TAILS[member]}\n" + "".join(f"class C{n}(C{n - 1}):\n {member}{n}{TAILS[member]}\n" for n in range(1, size))
 
 
+def fields(size):
+    return chain(size, "f")
+
+
+def methods(size):
+    return chain(size, "def f")
+
+
+def comb(size):
+    """A chain of so many classes with a field each, and below each another one with a field."""
+    return fields(size) + "".join(f"class D{n}(C{n}): g{n}: int\n" for n in range(size))
+
+
+def two_stars(size):
+    """Two classes with so many fields each, and so many classes that are below the one and the other in turn."""
+    bases = "".join(f"class {base}:\n" + "".join(f" {base}{n}: int\n" for n in range(size)) for base in "AB")
+    return bases + "".join(f"class D{n}({'AB'[n % 2]}): f{n}: int\n" for n in range(size))
+
+
+# What stands behind the name of a member.
+TAILS = {"f": ": int", "def f": "(self): pass"}
 MODULES = {
     "distinct names": (distinct, [12_500, 25_000, 50_000]),
-    "classes below one another": (derived, [1_000, 2_000, 4_000]),
+    "a chain of classes with a field each": (fields, [2_000, 4_000, 8_000, 30_000]),
+    "a chain of classes with a method each": (methods, [2_000, 4_000, 8_000, 22_000]),
+    "a comb of classes": (comb, [1_000, 2_000, 4_000, 16_000]),
+    "two stars of classes": (two_stars, [2_000, 4_000, 8_000, 19_000]),
 }
 
 
@@ -74,4 +98,4 @@ if len(times) != sum(len(sizes) for _, sizes in MODULES.values()):
 for name, (_, sizes) in MODULES.items():
     row, times = times[: len(sizes)], times[len(sizes) :]
     cells = " | ".join(f"{size:,}: {time:.1f} ms" for size, time in zip(sizes, row))
-    print(f"| {name} | {cells} | {row[-1] / row[-2]:.1f} |")
+    print(f"| {name} | {cells} | {row[-1] / row[-2] * sizes[-2] / sizes[-1]:.1f} |")

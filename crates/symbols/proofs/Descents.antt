@@ -155,19 +155,19 @@ found_get home others (d ∷ own) earlier (suc n) c e =
     let f = joined home others earlier d in
     found_get home others own (earlier ++ f ∷ []) n c e ∙ ap (λ (fs : List Found). Some (joined home others fs c)) (append_assoc earlier (f ∷ []) (take n (joined_behind home others (earlier ++ f ∷ []) own)))
 
-found_none : (home : ℕ) (others : List ClassKind) (own : List OwnClass) (earlier : List Found) (n : ℕ) → slice_get own n ≡ None → slice_get (joined_behind home others earlier own) n ≡ None
+pub found_none : (home : ℕ) (others : List ClassKind) (own : List OwnClass) (earlier : List Found) (n : ℕ) → slice_get own n ≡ None → slice_get (joined_behind home others earlier own) n ≡ None
 found_none home others [] earlier n e = refl
 found_none home others (d ∷ own) earlier zero e = cc (e)
 found_none home others (d ∷ own) earlier (suc n) e = found_none home others own (earlier ++ joined home others earlier d ∷ []) n e
 
-slice_get-take : {X : Type 0} (xs : List X) (n i : ℕ) → i < n → slice_get (take n xs) i ≡ slice_get xs i
+pub slice_get-take : {X : Type 0} (xs : List X) (n i : ℕ) → i < n → slice_get (take n xs) i ≡ slice_get xs i
 slice_get-take {X} [] n i h = ap (λ (ys : List X). slice_get ys i) (take-nil n)
 slice_get-take (x ∷ xs) zero i h = absurd (omega (arith, h))
 slice_get-take (x ∷ xs) (suc n) zero h = refl
 slice_get-take (x ∷ xs) (suc n) (suc i) h = slice_get-take xs n i (omega (arith, h))
 
 -- the base of a class among those before it is its base among all
-base_before : (others : List ClassKind) (found : List Found) (n : ℕ) (p : BasePlace) → earlier_bound p ≤ n → (base_slots (base_at others (take n found) p) ≡ base_slots (base_at others found (standing p))) × (base_methods (base_at others (take n found) p) ≡ base_methods (base_at others found (standing p)))
+pub base_before : (others : List ClassKind) (found : List Found) (n : ℕ) (p : BasePlace) → earlier_bound p ≤ n → (base_slots (base_at others (take n found) p) ≡ base_slots (base_at others found (standing p))) × (base_methods (base_at others (take n found) p) ≡ base_methods (base_at others found (standing p)))
 base_before others found n place.None h = (refl, refl)
 base_before others found n (place.Earlier m) h =
     let same : slice_get (take n found) m ≡ slice_get found m = slice_get-take found n m (omega (arith, h)) in

@@ -12,3 +12,4 @@ pub mod ClassLists
 pub mod ImportedKinds
 pub mod Descents
 pub mod ClassNumbers
+pub mod Reading

@@ -9,6 +9,7 @@ use Rattle.py_tree.specs.Order.{of_scope}
 use Rattle.py_values.specs.declared.exception.ExcKind.{ExcKind}
 use Rattle.py_values.specs.declared.class_id.ClassId.{ClassId}
 use Rattle.py_values.specs.declared.class_id.ClassId.TheVariants as id
+use Rattle.symbols.specs.declared.class.Class.{Class}
 use Rattle.symbols.specs.declared.class.ClassKind.{ClassKind}
 use Rattle.symbols.specs.declared.outer.Outer.{Outer}
 use Rattle.symbols.specs.declared.outer.OuterBinding.{OuterBinding}
@@ -19,14 +20,6 @@ use Rattle.symbols.specs.Words.{exception_named}
 use Rattle.symbols.specs.BaseKinds as base
 use Rattle.symbols.specs.BaseKinds.{Base}
 use Rattle.symbols.specs.Bindings.{first_mentions}
-
--- a class with the line of its statement, the class that it is directly below, itself with its bases, and its own methods
-pub record Class : Type 0 where
-  pub name : Text
-  pub line : ℕ
-  pub base : Option ClassId
-  pub kind : ClassKind
-  pub methods : List Text
 
 -- a class, whether what stands for its base is one or not
 pub record Found : Type 0 where

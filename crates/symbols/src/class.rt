@@ -13,6 +13,20 @@ pub struct ClassKind {
     pub methods: Texts,
 }
 
+/// A class of a module with its bases.
+#[derive(Drop)]
+pub struct Class {
+    pub name: Text,
+    /// The physical line, from 1, of its statement.
+    pub line: u32,
+    /// The class that it is directly below, where there is one.
+    pub base: Option<ClassId>,
+    /// It with its bases.
+    pub kind: ClassKind,
+    /// Its own methods.
+    pub methods: Texts,
+}
+
 /// A class of a module with its own members alone.
 #[derive(Drop)]
 pub struct OwnClass {

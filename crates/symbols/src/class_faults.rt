@@ -12,6 +12,7 @@ use crate::binding::{BindingKind, Bindings};
 use crate::bindings::put_name;
 use crate::class_list::FoundClasses;
 use crate::class_order::order_of;
+use crate::class_reading::args_slots;
 use crate::lineage::Lineage;
 use crate::repeats::members_again;
 use crate::scope::scope_of;
@@ -52,15 +53,6 @@ fn clashes(alloc: Global, classes: &FoundClasses) -> Result<Vec<bool>, AllocErro
     let args = args_slots(alloc)?;
     let order = order_of(alloc, classes)?;
     clashes_in(alloc, classes, args.as_slice(), order.as_slice())
-}
-
-/// The slots of an exception class.
-fn args_slots(alloc: Global) -> Result<Texts, AllocError>
-    ensures { IfOk result (λ slots. slots ≡ codes "args" ∷ []) }
-{
-    let mut slots = Texts::new(alloc);
-    slots.push(Text::from_slice(alloc, &['a', 'r', 'g', 's'])?)?;
-    Ok(slots)
 }
 
 /// The same, where the classes are visited in an order that has each of them.

@@ -1,7 +1,10 @@
-ghost use Rattle.std.specs.Prelude.{◌≡◌, ◌∷◌, [], IfOk, codes};
+ghost use Rattle.std.specs.Prelude.{◌≡◌, ◌<◌, ◌∷◌, [], Some, IfOk, codes, length, slice_get};
+ghost use Rattle.std.specs.List.{list_any};
+ghost use Rattle.std.specs.Option.{option_map};
+ghost use Rattle.symbols.specs.Words.{among};
 ghost use Rattle.symbols.specs.BasePlaces.{ArePlaced};
 
-use crate::class::{BasePlace, ClassKind, OwnClass};
+use crate::class::{BasePlace, Class, ClassKind, OwnClass};
 use lists::Items;
 use py_tree::text::Text;
 use std::alloc::{AllocError, Global};
@@ -95,7 +98,8 @@ pub struct Classes {
 
 impl Model for Classes {
     ghost use Rattle.std.specs.Prelude.{List};
-    ghost use Rattle.symbols.specs.Classes.{Class, classes_in};
+    ghost use Rattle.symbols.specs.declared.class.Class.{Class};
+    ghost use Rattle.symbols.specs.Classes.{classes_in};
     ghost use Rattle.symbols.specs.ClassViews.{founds};
 
     ghost Value = { List Class };
@@ -112,5 +116,36 @@ impl Classes {
         ensures { result ≡ classes_in (founds found) }
     {
         Classes { found }
+    }
+
+    /// The number of classes. Takes no memory.
+    pub fn len(&self) -> usize
+        ensures { result ≡ length self.now }
+    {
+        self.found.own.len()
+    }
+
+    /// A copy of the class with that number, with the members of its bases. In time linear in its members and its bases.
+    pub fn class(&self, alloc: Global, number: usize) -> Result<Class, AllocError>
+        requires { number < length self.now }
+        ensures { IfOk result (λ class. slice_get self.now number ≡ Some class) }
+    {
+        self.found.class(alloc, number)
+    }
+
+    /// Whether the class with that number, or a class above it, has a slot of that name. Takes no memory.
+    pub fn has_slot(&self, number: usize, name: &Text) -> bool
+        requires { number < length self.now }
+        ensures { option_map (λ class. among name.now class.kind.slots) (slice_get self.now number) ≡ Some result }
+    {
+        self.found.has_slot(BasePlace::Earlier(number), name)
+    }
+
+    /// Whether the class with that number, or a class above it, has a method of that name. Takes no memory.
+    pub fn has_method(&self, number: usize, name: &Text) -> bool
+        requires { number < length self.now }
+        ensures { option_map (λ class. among name.now class.kind.methods) (slice_get self.now number) ≡ Some result }
+    {
+        self.found.has_method(BasePlace::Earlier(number), name)
     }
 }

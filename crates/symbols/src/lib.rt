@@ -9,6 +9,7 @@ pub mod class;
 mod class_faults;
 pub mod class_list;
 mod class_order;
+mod class_reading;
 mod class_table;
 mod classes;
 mod context;
