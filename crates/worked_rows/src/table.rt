@@ -32,7 +32,7 @@ pub enum Subject {
     Operator,
 }
 
-pub const TABLES: [(&str, Subject); 13] = [
+pub const TABLES: [(&str, Subject); 14] = [
     ("tokens.txt", Subject::Tokens),
     ("markers.txt", Subject::Marker),
     ("lines.txt", Subject::Form),
@@ -40,6 +40,7 @@ pub const TABLES: [(&str, Subject); 13] = [
     ("files.txt", Subject::File),
     ("kinds.txt", Subject::Names(NameList::Kind)),
     ("globals.txt", Subject::Names(NameList::Globals)),
+    ("classes.txt", Subject::Names(NameList::Classes)),
     ("locals.txt", Subject::Names(NameList::Locals)),
     ("statics.txt", Subject::Names(NameList::Statics)),
     ("faults.txt", Subject::Names(NameList::Nothing)),
