@@ -6,6 +6,8 @@ mod atoms;
 #[cfg(test)]
 mod disk_folder;
 #[cfg(test)]
+mod elements;
+#[cfg(test)]
 mod folders;
 #[cfg(test)]
 mod globals;
@@ -17,8 +19,6 @@ mod imports;
 mod keys;
 #[cfg(test)]
 mod lexer;
-#[cfg(test)]
-mod lists;
 #[cfg(test)]
 mod memory_folder;
 #[cfg(test)]
