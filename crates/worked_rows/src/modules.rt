@@ -7,6 +7,8 @@ use py_expr::line::line_form;
 use py_lexer::lex::lex;
 use py_lexer::marker::marker_line;
 use py_lexer::token::LogicalLine;
+use py_tree::fault::Stop;
+use sqlite_items::Boxed;
 use std::alloc::Global;
 use std::fmt::Write;
 
@@ -39,12 +41,18 @@ pub fn formed(alloc: Global, text: &str) -> Result<String> {
 
 fn put_form(alloc: Global, lines: &[LogicalLine], out: &mut String) -> Result<()> {
     match lines {
-        [line] => match line_form(alloc, line) {
-            Ok(_) => out.push_str("taken")?,
+        [line] => match spells_form(alloc, line) {
+            Ok(()) => out.push_str("taken")?,
             Err(stop) => put_stop(out, stop)?,
         },
         lines => write!(out, "{} lines", lines.len())?,
     }
+    Ok(())
+}
+
+/// Nothing where the line spells a form, and else its fault.
+fn spells_form(alloc: Global, line: &LogicalLine) -> Result<(), Stop> {
+    let _form = Boxed::new(alloc, line_form(alloc, line)?)?;
     Ok(())
 }
 
