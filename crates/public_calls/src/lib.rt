@@ -20,11 +20,7 @@ mod keys;
 #[cfg(test)]
 mod lexer;
 #[cfg(test)]
-mod memory_folder;
-#[cfg(test)]
 mod phrases;
-#[cfg(test)]
-mod registry;
 #[cfg(test)]
 mod run;
 #[cfg(test)]
