@@ -11,7 +11,6 @@ use py_tree::text::Text;
 use py_values::class_id::ClassId;
 use py_values::exception::ExcKind;
 use py_values::value::{Home, Value};
-use std::alloc::{AllocError, Global};
 use std::test::Fail;
 
 const HOME: Home = Home::Module(2);
@@ -108,24 +107,15 @@ fn a_slot_is_set(rt: HostRuntime) -> Result<(), Fail> {
     Ok(())
 }
 
-fn names_x_and_y(alloc: Global) -> Result<Texts, AllocError> {
+#[test]
+fn globals_are_taken_out(rt: HostRuntime) -> Result<(), Fail> {
+    let alloc = rt.alloc();
+    let mut segment = Segment::new(alloc, Home::Run);
     let mut names = Texts::new(alloc);
     names.push(Text::from_str(alloc, "x")?)?;
     names.push(Text::from_str(alloc, "y")?)?;
-    Ok(names)
-}
-
-#[test]
-fn globals_are_set_and_unbound(rt: HostRuntime) -> Result<(), Fail> {
-    let alloc = rt.alloc();
-    let mut segment = Segment::new(alloc, Home::Run);
-    assert_eq!(rt; segment.home(), Home::Run);
-    assert_eq!(rt; segment.len(), 0);
-    segment.open_globals(&names_x_and_y(alloc)?)?;
-    segment.set_global(0, Value::Int(6));
+    segment.open_globals(&names)?;
     segment.set_global(1, Value::Int(7));
-    assert_eq!(rt; segment.global(0), Some(Value::Int(6)));
-    segment.unset_global(0);
     let globals = segment.take_globals();
     assert_eq!(rt; globals.len(), 2);
     assert_eq!(rt; globals.at(0).value, None);
