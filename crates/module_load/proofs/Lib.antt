@@ -7,6 +7,7 @@ pub mod Phases
 pub mod Examples
 pub mod NamePlaces
 pub mod Folders
+pub mod SomeSources
 pub mod FolderExamples
 pub mod FirstOnes
 pub mod Statements

@@ -44,7 +44,7 @@ built bytes lines seen forms (Err (stop.Memory error)) lexed same formed right =
 
 -- ---- and that it is lawful
 
-rows_fit : {lines : List LogicalLine} {rows : Rows} → Forms lines rows → lines_fit lines ≡ true → forms_fit rows ≡ true
+pub rows_fit : {lines : List LogicalLine} {rows : Rows} → Forms lines rows → lines_fit lines ≡ true → forms_fit rows ≡ true
 rows_fit no_line e = refl
 rows_fit (a_line {l = l} {ls = ls} {rows = rows} s n d) e =
     let parts = and_parts (tokens_fit l.tokens) (lines_fit ls) e in

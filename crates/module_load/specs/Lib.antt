@@ -4,6 +4,7 @@ pub mod Preparing
 pub mod EveryFile
 pub mod Parsing
 pub mod Folders
+pub mod EveryFolder
 pub mod NamePlaces
 pub mod ImportWalk
 pub mod Decisions

@@ -1,6 +1,7 @@
 ghost use Rattle.std.specs.Prelude.{◌≡◌, ◌≤◌, ◌<◌, IfOk, length, map};
 ghost use Rattle.std.specs.List.{filter_map, position};
 ghost use Rattle.std.specs.Str.{bytes_eq};
+ghost use Rattle.module_load.specs.EveryFolder.{EveryFolder};
 ghost use Rattle.module_load.specs.Folders.{AreSources, IsSources, OneFolder, direct_import, direct_imports, file_of, graph_of, names_of};
 ghost use Rattle.module_load.specs.NamePlaces.{ArePlacesOf};
 ghost use Rattle.module_load.specs.Sources.{state_of};
@@ -38,6 +39,11 @@ pub fn sources_of(alloc: Global, files: &[ModuleFile]) -> Result<Sources<Source>
 /// The same files have the same names, states and imports.
 pub fn one_folder()
     ensures { OneFolder }
+{}
+
+/// The other half of it: files have sources.
+pub fn every_folder()
+    ensures { EveryFolder }
 {}
 
 /// What each file is by itself.

@@ -66,7 +66,7 @@ statement_made = fold-roll-Stmt Kind x.Branch x.ClassDef x.Clause x.Function Sta
 -- ---- expressions
 
 mutual
-  pub expression_tree : (e : Expression) → (tree : Expr) × (expression_of tree ≡ e)
+  expression_tree : (e : Expression) → (tree : Expr) × (expression_of tree ≡ e)
   expression_tree x.Nil = expression_made E.Nil refl
   expression_tree x.True = expression_made E.True refl
   expression_tree x.False = expression_made E.False refl
@@ -97,28 +97,28 @@ mutual
       let layer : E.Call-F Expr Call Keyword Pair = record { callee = a.0; args = es.0; keys = ks.0 } in
       expression_made (E.Call (roll-Call layer)) (call_made layer ∙ λ i. x.Call (a.1 i) (es.1 i) (ks.1 i))
 
-  pub expression_trees : (es : Expressions) → (trees : List Expr) × (expressions_of trees ≡ es)
+  expression_trees : (es : Expressions) → (trees : List Expr) × (expressions_of trees ≡ es)
   expression_trees x.end_of_expressions = ([], refl)
   expression_trees (x.more_expressions e es) = let a = expression_tree e in let b = expression_trees es in (a.0 ∷ b.0, λ i. x.more_expressions (a.1 i) (b.1 i))
 
-  pub pair_tree : (p : x.Pair) → (tree : Pair) × (pair_of tree ≡ p)
+  pair_tree : (p : x.Pair) → (tree : Pair) × (pair_of tree ≡ p)
   pair_tree (x.Paired key value) =
       let a = expression_tree key in
       let b = expression_tree value in
       let layer : E.Pair-F Expr Call Keyword Pair = record { key = a.0; value = b.0 } in
       (roll-Pair layer, pair_made layer ∙ λ i. x.Paired (a.1 i) (b.1 i))
 
-  pub pair_trees : (ps : Pairs) → (trees : List Pair) × (pairs_of trees ≡ ps)
+  pair_trees : (ps : Pairs) → (trees : List Pair) × (pairs_of trees ≡ ps)
   pair_trees x.end_of_pairs = ([], refl)
   pair_trees (x.more_pairs p ps) = let a = pair_tree p in let b = pair_trees ps in (a.0 ∷ b.0, λ i. x.more_pairs (a.1 i) (b.1 i))
 
-  pub keyword_tree : (k : x.Keyword) → (tree : Keyword) × (keyword_of tree ≡ k)
+  keyword_tree : (k : x.Keyword) → (tree : Keyword) × (keyword_of tree ≡ k)
   keyword_tree (x.Named name value) =
       let a = expression_tree value in
       let layer : E.Keyword-F Expr Call Keyword Pair = record { name = name; value = a.0 } in
       (roll-Keyword layer, keyword_made layer ∙ λ i. x.Named name (a.1 i))
 
-  pub keyword_trees : (ks : Keywords) → (trees : List Keyword) × (keywords_of trees ≡ ks)
+  keyword_trees : (ks : Keywords) → (trees : List Keyword) × (keywords_of trees ≡ ks)
   keyword_trees x.end_of_keywords = ([], refl)
   keyword_trees (x.more_keywords k ks) = let a = keyword_tree k in let b = keyword_trees ks in (a.0 ∷ b.0, λ i. x.more_keywords (a.1 i) (b.1 i))
 

@@ -9,3 +9,4 @@ pub mod RunLemmas
 pub mod OneLoader
 pub mod WorldOfFiles
 pub mod OneReport
+pub mod SomeReport

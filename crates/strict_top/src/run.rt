@@ -6,6 +6,7 @@ ghost use Rattle.outside.specs.Faults.{HasRisen};
 ghost use Rattle.module_load.specs.Folders.{file_of};
 ghost use Rattle.module_load.specs.Right.{is_refused};
 ghost use Rattle.strict_top.specs.Reports.{Report, bad_words, too_large, report_of};
+ghost use Rattle.strict_top.specs.EveryReport.{EveryReport};
 ghost use Rattle.strict_top.specs.Runs.{HasEnded, IsReport, IsTold, OneReport, WritesFront, WritesReport};
 ghost use Rattle.strict_top.specs.Words.{directory_of};
 ghost use Rattle.strict_top.specs.Steps.{AreDecided, Writes, paired};
@@ -97,6 +98,11 @@ pub fn run_one<F: Folder, S: Sink>(
 /// The law of reports: what is told has at most one.
 pub fn one_report()
     ensures { OneReport }
+{}
+
+/// The other half of it: what is told has a report.
+pub fn every_report()
+    ensures { EveryReport }
 {}
 
 /// Writes the report of words that aren't taken.
