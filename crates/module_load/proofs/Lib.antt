@@ -10,10 +10,7 @@ pub mod Folders
 pub mod FolderExamples
 pub mod FirstOnes
 pub mod Statements
-pub mod Walks
-pub mod ImportWalk
 pub mod Needs
-pub mod RowNames
 pub mod Held
 pub mod Named
 pub mod OneDecision

@@ -5,7 +5,6 @@ pub mod EveryFile
 pub mod Parsing
 pub mod Folders
 pub mod NamePlaces
-pub mod ImportWalk
 pub mod Decisions
 pub mod Imports
 pub mod Outers
