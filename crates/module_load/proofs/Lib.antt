@@ -11,10 +11,7 @@ pub mod SomeSources
 pub mod FolderExamples
 pub mod FirstOnes
 pub mod Statements
-pub mod Walks
-pub mod ImportWalk
 pub mod Needs
-pub mod RowNames
 pub mod Held
 pub mod Named
 pub mod OneDecision

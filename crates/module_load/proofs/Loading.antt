@@ -1,7 +1,6 @@
 -- What is loaded is right, over what is gathered.
 use Rattle.std.proofs.Common.{◌≡◌, ℕ, zero, suc, ◌<◌, ◌==◌, ◌||◌, Bool, true, false, List, [], ◌∷◌, Option, Some, None, slice_get, length, refl, sym, ap, ◌∙◌, subst, arith}
 use Rattle.std.specs.List.{position}
-use Rattle.std.specs.Option.{option_map}
 use Rattle.std.specs.Str.{bytes_eq}
 use Rattle.py_tree.specs.Joined.{module_of}
 use Rattle.py_tree.specs.Syntax.{Text}
@@ -11,21 +10,20 @@ use Rattle.registry_core.specs.declared.imports.Import.{Import}
 use Rattle.registry_core.specs.declared.sources.Sources.{Sources}
 use Rattle.registry_core.specs.Verdicts.{Gathers, data_list, rules_of}
 use Rattle.import_graph.specs.Closure.{count, cut, cyclic_line, need_of, reached_of, reaches}
-use Rattle.import_graph.specs.Graph.{Rows, row_of, has}
+use Rattle.import_graph.specs.Graph.{Rows, has}
 use Rattle.import_graph.proofs.Cuts.{length-cut}
 use Rattle.import_graph.proofs.Listed.{has_those}
 use Rattle.registry_core.specs.Imports.{has_row}
 use Rattle.registry_core.proofs.Gathered.{gathered_at, gathered_has}
 use Rattle.std.proofs.lemmas.Bool.Decides.{nat_tests}
-use Rattle.std.proofs.lemmas.Option.{get_or_from_slice_get, slice_get-map}
 use Rattle.module_load.specs.declared.source.Source.{Source}
 use Rattle.module_load.specs.declared.source.SourceState.{SourceState}
 use Rattle.module_load.specs.declared.source.SourceState.TheVariants as source
 use Rattle.module_load.specs.declared.verdict.Verdict.{Verdict}
-use Rattle.module_load.specs.Folders.{direct_imports, graph_of, names_of, states_of}
+use Rattle.module_load.specs.Folders.{names_of}
 use Rattle.module_load.specs.Right.{decided, decided_of, is_refused, known_in, right, right_of_source, right_of_state, right_of_tree, unless_cyclic}
 use Rattle.module_load.specs.RightDecisions.{IsRight}
-use Rattle.module_load.specs.Sources.{state_of, tree as a_tree}
+use Rattle.module_load.specs.Sources.{state_of}
 use Rattle.module_load.proofs.RightOnes.{right_one}
 
 -- ---- rows, as data
@@ -59,15 +57,7 @@ tree_right {L} loads all m rows s tree v gathered loose there is only =
     ∙ only (right_of_tree known s.name m (module_of tree)) (right_one known s.name m (module_of tree)) in
     sym over_rows ∙ (λ i. unless_cyclic (cyclic_line all.graph m) (right_of_source (λ name. same name i) m (slice_get all.list m)))
 
--- ---- what its row and its rows are
-
--- the row of a module with a tree
-pub row_is : (all : Sources Source) (m : ℕ) (s : Source) (tree : Module) → all.graph ≡ graph_of all.list → slice_get all.list m ≡ Some s → s.state ≡ source.Tree tree → row_of all.graph m ≡ direct_imports (names_of all.list) (a_tree (module_of tree))
-row_is all m s tree graph there is =
-    ap (λ (rows : Rows). row_of rows m) graph
-    ∙ get_or_from_slice_get (graph_of all.list) m (direct_imports (names_of all.list) (state_of s.state)) []
-    (slice_get-map (direct_imports (names_of all.list)) (states_of all.list) m ∙ ap (option_map (direct_imports (names_of all.list))) (slice_get-map (λ (x : Source). state_of x.state) all.list m ∙ ap (option_map (λ (x : Source). state_of x.state)) there))
-    ∙ ap (λ (state : SourceState). direct_imports (names_of all.list) (state_of state)) is
+-- ---- what its rows are
 
 row_has : (rows : List (Import Verdict)) (k : ℕ) (row : Import Verdict) → slice_get rows k ≡ Some row → has_row rows row.module ≡ true
 row_has [] k row h = absurd cc

@@ -1,19 +1,15 @@
 -- Tables of verdicts, and what is known of names.
-use Rattle.std.specs.Prelude.{if◌then◌else◌, slice_index_or}
-use Rattle.std.proofs.Common.{◌≡◌, ◌==◌, ℕ, zero, suc, ◌+◌, ◌<◌, Bool, true, false, cond, List, [], ◌∷◌, ◌++◌, length, map, take, get_or, Option, Some, None, Bor, refl, sym, ap, ◌∙◌, arith}
+use Rattle.std.specs.Prelude.{if◌then◌else◌}
+use Rattle.std.proofs.Common.{◌≡◌, ◌==◌, ℕ, ◌+◌, ◌<◌, Bool, true, false, cond, List, [], ◌∷◌, ◌++◌, length, take, get_or, Option, Some, None, Bor, refl, sym, ap, ◌∙◌, arith}
 use Rattle.std.specs.Arc.{arc_value}
 use Rattle.std.specs.List.{find, position}
 use Rattle.std.specs.Option.{option_map, option_or}
 use Rattle.std.specs.Str.{bytes_eq}
-use Rattle.std.proofs.lemmas.List.{length-map, take_more}
+use Rattle.std.proofs.lemmas.List.{take_more}
 use Rattle.py_tree.specs.Syntax.{Text}
 use Rattle.registry_core.specs.declared.imports.Import.{Import}
-use Rattle.registry_core.specs.declared.sources.Sources.{Sources}
-use Rattle.module_load.specs.declared.source.Source.{Source}
 use Rattle.module_load.specs.declared.verdict.Verdict.{Verdict}
-use Rattle.module_load.specs.Folders.{names_of}
-use Rattle.module_load.specs.ImportWalk.{pointed}
-use Rattle.module_load.specs.Needs.{AreKnown, IsTableOf, copied, in_table, rows_of}
+use Rattle.module_load.specs.Needs.{IsTableOf, in_table, rows_of}
 use Rattle.module_load.specs.Right.{decided, decided_of, known_in}
 use Rattle.module_load.proofs.NamePlaces.{found_at}
 
@@ -47,28 +43,10 @@ table_turn count rows k row old new v lt item is same at before = record {
 
 -- ---- what is known of names
 
-known_at : (count : ℕ) (rows : List (Import Verdict)) (table : List (Option (Bor Verdict))) (names : List Text) (name : Text) → IsTableOf count rows table → length names ≡ count → in_table table (position (bytes_eq name) names) ≡ known_in names (rows_of rows) name
+-- the verdict at the number of a name is what is known of it
+pub known_at : (count : ℕ) (rows : List (Import Verdict)) (table : List (Option (Bor Verdict))) (names : List Text) (name : Text) → IsTableOf count rows table → length names ≡ count → in_table table (position (bytes_eq name) names) ≡ known_in names (rows_of rows) name
 known_at count rows table names name t many = by (position (bytes_eq name) names) refl
   where
     by : (o : Option ℕ) → position (bytes_eq name) names ≡ o → in_table table o ≡ decided_of (rows_of rows) o
     by None e = refl
     by (Some n) e = t.each n (let lt = (found_at (bytes_eq name) names n e).0 in omega (arith, lt, many))
-
-all_known : (count : ℕ) (rows : List (Import Verdict)) (table : List (Option (Bor Verdict))) (list : List Text) (names : List (Bor Text)) → IsTableOf count rows table → length list ≡ count
-    → map (in_table table) (map (λ (name : Text). position (bytes_eq name) list) (pointed names)) ≡ map (λ (name : Bor Text). known_in list (rows_of rows) name.now) names
-all_known count rows table list [] t many = refl
-all_known count rows table list (name ∷ names) t many = λ i. known_at count rows table list name.now t many i ∷ all_known count rows table list names t many i
-
-pub are_known : (all : Sources Source) (count : ℕ) (rows : List (Import Verdict)) (table : List (Option (Bor Verdict))) (names : List (Bor Text)) (numbers : List (Option ℕ)) (verdicts : List (Option (Bor Verdict)))
-    → length all.list ≡ count → IsTableOf count rows table → numbers ≡ map (λ (name : Text). position (bytes_eq name) (names_of all.list)) (pointed names) → copied verdicts ≡ map (in_table table) numbers → AreKnown all rows names verdicts
-are_known all count rows table names numbers verdicts many t is made =
-    made ∙ ap (map (in_table table)) is ∙ all_known count rows table (names_of all.list) names t (length-map all.list (λ (s : Source). s.name) ∙ many)
-
--- the verdict at a place is what is known of the name there
-pub at_both : {A B C D : Type 0} (f : A → C) (h : D → C) (g : B → D) (vs : List A) (ns : List B) (k : ℕ) (d : A) (e : D) → map f vs ≡ map (λ b. h (g b)) ns → k < length (map g ns) → f (slice_index_or vs k d) ≡ h (slice_index_or (map g ns) k e)
-at_both f h g vs [] k d e is lt = absurd (omega arith)
-at_both f h g [] (n ∷ ns) k d e is lt = absurd cc
-at_both f h g (v ∷ vs) (n ∷ ns) zero d e is lt = cc (is)
-at_both f h g (v ∷ vs) (n ∷ ns) (suc k) d e is lt =
-    let tails : map f vs ≡ map (λ b. h (g b)) ns = cc (is) in
-    at_both f h g vs ns k d e tails (omega arith)

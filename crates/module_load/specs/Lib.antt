@@ -6,7 +6,6 @@ pub mod Parsing
 pub mod Folders
 pub mod EveryFolder
 pub mod NamePlaces
-pub mod ImportWalk
 pub mod Decisions
 pub mod Imports
 pub mod Outers

@@ -3,7 +3,6 @@ ghost use Rattle.py_tree.specs.Joined.{module_of};
 ghost use Rattle.py_tree.specs.Lawful.{lawful};
 ghost use Rattle.py_tree.specs.Syntax.{Text as Name};
 ghost use Rattle.symbols.specs.Words.{among};
-ghost use Rattle.module_load.specs.Decisions.{imported_names};
 ghost use Rattle.module_load.specs.RightDecisions as rule;
 ghost use Rattle.module_load.specs.RightDecisions.{IsRight};
 ghost use Rattle.module_load.specs.Views.{IsDecided, with_module};
@@ -24,8 +23,7 @@ use symbols::names::Names;
 use symbols::outer::{OuterBinding, OuterKind};
 use symbols::resolve::resolve;
 
-/// What is decided of a module that stands on no cycle of imports, by its name and number, from what is decided of those that its imports
-/// name.
+/// What is decided of a module that stands on no cycle of imports, by its name and number, from what is decided of those that it needs.
 pub fn decide<K: Known>(
     alloc: Global,
     tree: &Module,
@@ -34,7 +32,6 @@ pub fn decide<K: Known>(
     known: &K,
 ) -> Result<Verdict, AllocError>
     requires lawful { lawful (module_of tree.now) ≡ true }
-    requires names { K.names known.now ≡ imported_names (module_of tree.now) }
     // What is answered is so.
     ensures so { IfOk result (λ verdict. IsRight (K.decisions known.now) name.now number (module_of tree.now) verdict) }
     // What is so is answered.
@@ -56,7 +53,6 @@ fn published<K: Known>(
     known: &K,
 ) -> Result<Globals, Stop>
     requires lawful { lawful (module_of tree.now) ≡ true }
-    requires names { K.names known.now ≡ imported_names (module_of tree.now) }
     ensures { IsDecided (K.decisions known.now) name.now number (module_of tree.now) result }
 {
     let body = tree.body.as_slice();

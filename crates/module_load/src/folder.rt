@@ -71,7 +71,7 @@ fn graph_of(alloc: Global, list: &[Source]) -> Result<Graph, AllocError>
 }
 
 /// Where each name first stands.
-fn places_of(alloc: Global, list: &[Source]) -> Result<NamePlaces, AllocError>
+pub(crate) fn places_of(alloc: Global, list: &[Source]) -> Result<NamePlaces, AllocError>
     ensures { IfOk result (λ places. ArePlacesOf places (names_of list.now)) }
 {
     let mut places = NamePlaces::new(alloc);

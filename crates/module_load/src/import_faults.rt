@@ -1,17 +1,16 @@
-ghost use Rattle.std.specs.Prelude.{◌≡◌, [], ◌∷◌, map};
+ghost use Rattle.std.specs.Prelude.{◌≡◌, map};
 ghost use Rattle.std.specs.List.{flat_map};
 ghost use Rattle.std.specs.Option.{option_copied};
 ghost use Rattle.py_tree.specs.Joined.{kind_of, module_of, statement_of, statements_of};
 ghost use Rattle.py_tree.specs.TopPart as top;
 ghost use Rattle.py_tree.specs.declared.statement.Import.{Import as Imported};
 ghost use Rattle.symbols.specs.FirstFaults.{IsFirstOf};
-ghost use Rattle.module_load.specs.Decisions.{IsNamedAt, StandAt, imported_names, kind_names, statement_names};
 ghost use Rattle.module_load.specs.FirstOnes as spec;
 ghost use Rattle.module_load.specs.Imports as rule;
 ghost use Rattle.module_load.specs.Preparing.{fault};
 
 use crate::globals::Globals;
-use crate::known::{Known, named_count};
+use crate::known::Known;
 use crate::top_part::{behind_docstring, is_marker_alone};
 use crate::verdict::Verdict;
 use py_tree::code::Code;
@@ -34,7 +33,6 @@ const RESERVED: [&[u8]; 5] = [
 
 /// The first fault of the imports of a module's top part: the least line, and on it the least code. Takes no memory.
 pub(crate) fn first_import_fault<K: Known>(known: &K, body: &[Stmt]) -> Option<Fault>
-    requires { K.names known.now ≡ imported_names (statements_of body.now) }
     ensures { IsFirstOf (rule.import_faults (K.decisions known.now) (statements_of body.now)) result }
 {
     first_statement_fault(known, module_kind(body), top_imports(body))
@@ -63,15 +61,12 @@ fn first_statement_fault<K: Known>(
     importing: ModuleKind,
     imports: &[Stmt],
 ) -> Option<Fault>
-    requires { K.names known.now ≡ flat_map statement_names (map statement_of imports.now) }
     ensures { IsFirstOf (flat_map (rule.statement_faults (K.decisions known.now) importing) (map statement_of imports.now)) result }
 {
     let mut first = None;
-    let mut place = 0;
     for statement in imports {
-        let fault = kind_fault(known, importing, place, statement.line, &statement.kind);
+        let fault = kind_fault(known, importing, statement.line, &statement.kind);
         first = earlier(first, fault);
-        place += named_count(&statement.kind);
     }
     first
 }
@@ -87,63 +82,51 @@ fn earlier(a: Option<Fault>, b: Option<Fault>) -> Option<Fault>
     }
 }
 
-/// Of a statement whose first import has that place.
 fn kind_fault<K: Known>(
     known: &K,
     importing: ModuleKind,
-    place: usize,
     line: u32,
     kind: &StmtKind,
 ) -> Option<Fault>
-    requires { StandAt (K.names known.now) place (kind_names (kind_of kind.now)) }
     ensures { IsFirstOf (rule.kind_faults (K.decisions known.now) importing line (kind_of kind.now)) result }
 {
     match kind {
-        StmtKind::Import(names) => modules_fault(known, place, line, names.as_slice()),
+        StmtKind::Import(names) => modules_fault(known, line, names.as_slice()),
         StmtKind::From { module, names } => {
-            members_fault(known, importing, place, line, module, names.as_slice())
+            members_fault(known, importing, line, module, names.as_slice())
         }
         _ => None,
     }
 }
 
 /// Of `import NAME as NAME, ..`.
-fn modules_fault<K: Known>(known: &K, place: usize, line: u32, names: &[Import]) -> Option<Fault>
-    requires { StandAt (K.names known.now) place (map (λ (i : Imported). i.name) names.now) }
+fn modules_fault<K: Known>(known: &K, line: u32, names: &[Import]) -> Option<Fault>
     ensures { IsFirstOf (rule.modules_faults (K.decisions known.now) line names.now) result }
 {
     if is_marker_alone(names) {
         None
     } else {
-        first_module_fault(known, place, line, names)
+        first_module_fault(known, line, names)
     }
 }
 
-fn first_module_fault<K: Known>(
-    known: &K,
-    first_place: usize,
-    line: u32,
-    names: &[Import],
-) -> Option<Fault>
-    requires { StandAt (K.names known.now) first_place (map (λ (i : Imported). i.name) names.now) }
+fn first_module_fault<K: Known>(known: &K, line: u32, names: &[Import]) -> Option<Fault>
     ensures { IsFirstOf (flat_map (λ (i : Imported). rule.module_faults (K.decisions known.now) line i.name) names.now) result }
 {
     let mut first = None;
-    for (at, import) in names.iter().enumerate() {
-        let fault = module_fault(known, first_place + at, line, &import.name);
-        first = earlier(first, fault);
+    for import in names {
+        first = earlier(first, module_fault(known, line, &import.name));
     }
     first
 }
 
-fn module_fault<K: Known>(known: &K, place: usize, line: u32, name: &Text) -> Option<Fault>
-    requires { IsNamedAt (K.names known.now) place name.now }
+fn module_fault<K: Known>(known: &K, line: u32, name: &Text) -> Option<Fault>
     ensures { IsFirstOf (rule.module_faults (K.decisions known.now) line name.now) result }
 {
     if is_among(name, &RESERVED) {
         fault_unless(false, line, Code::NoSuchModule)
     } else {
-        taking_fault(line, &[], known.verdict(place))
+        taking_fault(line, &[], known.verdict(name))
     }
 }
 
@@ -151,12 +134,10 @@ fn module_fault<K: Known>(known: &K, place: usize, line: u32, name: &Text) -> Op
 fn members_fault<K: Known>(
     known: &K,
     importing: ModuleKind,
-    place: usize,
     line: u32,
     from: &Text,
     names: &[Import],
 ) -> Option<Fault>
-    requires { IsNamedAt (K.names known.now) place from.now }
     ensures { IsFirstOf (rule.members_faults (K.decisions known.now) importing line from.now names.now) result }
 {
     if is_word(from, b"__future__") {
@@ -170,7 +151,7 @@ fn members_fault<K: Known>(
     } else if is_word(from, b"__strict__") {
         fault_unless(false, line, Code::NoSuchModule)
     } else {
-        taking_fault(line, names, known.verdict(place))
+        taking_fault(line, names, known.verdict(from))
     }
 }
 

@@ -7,7 +7,6 @@ pub mod deciding;
 pub mod folder;
 pub mod globals;
 mod import_faults;
-mod imported;
 pub mod known;
 pub mod laws;
 mod name_places;

@@ -1,10 +1,12 @@
-ghost use Rattle.std.specs.Prelude.{◌≡◌, ◌<◌, ◌^◌, ◌==◌, ℕ, None, if◌then◌else◌, IfOk, length, map, slice_get, slice_index_or, Some};
-ghost use Rattle.std.specs.Option.{option_copied, option_or};
+ghost use Rattle.std.specs.Prelude.{◌≡◌, ◌<◌, ◌==◌, ℕ, None, if◌then◌else◌, IfOk, length, slice_get, Some};
+ghost use Rattle.std.specs.Option.{option_or};
 ghost use Rattle.registry_core.specs.declared.imports.Import.{Import as Row};
-ghost use Rattle.module_load.specs.ImportWalk.{pointed};
-ghost use Rattle.module_load.specs.Needs.{AreKnown, IsTableOf, copied, in_table, rows_of};
+ghost use Rattle.module_load.specs.Folders.{names_of};
+ghost use Rattle.module_load.specs.NamePlaces.{ArePlacesOf};
+ghost use Rattle.module_load.specs.Needs.{IsTableOf, in_table};
 
 use crate::known::Known;
+use crate::name_places::NamePlaces;
 use crate::source::Source;
 use crate::verdict::Verdict;
 use py_tree::text::Text;
@@ -12,33 +14,31 @@ use registry_core::imports::Imports;
 use registry_core::sources::Sources;
 use std::alloc::{AllocError, Global};
 
-/// What is decided of the modules that a module's imports name, over the verdicts of the modules that it needs.
+/// What is decided of the modules that a module needs, by their names.
 #[derive(Clone, Copy)]
 pub(crate) struct Needed<'a> {
     pub(crate) all: &'a Sources<Source>,
     pub(crate) imports: &'a Imports<Verdict>,
-    /// The names that the imports name.
-    pub(crate) names: &'a [&'a Text],
-    /// For each of them what is decided.
-    pub(crate) verdicts: &'a [Option<&'a Verdict>],
-    ghost known: { AreKnown all.now imports.now.rows names.now verdicts.now },
-    ghost few: { length (pointed names.now) < 2 ^ 64 },
+    /// The numbers of the modules, by their names.
+    pub(crate) places: &'a NamePlaces,
+    /// The verdicts, by the numbers of their modules.
+    pub(crate) table: &'a [Option<&'a Verdict>],
+    ghost named: { ArePlacesOf places.now (names_of all.now.list) },
+    ghost numbered: { IsTableOf (length all.now.list) imports.now.rows table.now },
 }
 
 impl<'a> Known for Needed<'a> {
     ghost use Rattle.registry_core.specs.Verdicts.{data_list};
     ghost use Rattle.module_load.specs.Folders.{names_of};
-    ghost use Rattle.module_load.specs.ImportWalk.{pointed};
     ghost use Rattle.module_load.specs.Right.{known_in};
 
     ghost decisions = { λ needed. known_in (names_of needed.all.now.list) (data_list (λ verdict. verdict) needed.imports.now.rows) };
 
-    ghost names = { λ needed. pointed needed.names.now };
-
-    ghost few = { λ needed. needed.few };
-
-    fn verdict(&self, place: usize) -> Option<&Verdict> {
-        self.verdicts[place]
+    fn verdict(&self, name: &Text) -> Option<&Verdict> {
+        match self.places.get(name) {
+            Some(number) => self.table[number],
+            None => None,
+        }
     }
 }
 
@@ -65,32 +65,5 @@ fn keep<'a>(table: &mut [Option<&'a Verdict>], place: usize, verdict: &'a Verdic
 {
     if table[place].is_none() {
         table[place] = Some(verdict);
-    }
-}
-
-/// The verdicts of the modules of these numbers.
-pub(crate) fn verdicts<'a>(
-    alloc: Global,
-    table: &[Option<&'a Verdict>],
-    numbers: &[Option<u32>],
-) -> Result<Vec<Option<&'a Verdict>>, AllocError>
-    ensures { IfOk result (λ verdicts. copied verdicts.items ≡ map (in_table table.now) numbers.now) }
-{
-    let mut verdicts = Vec::new(alloc);
-    for number in numbers {
-        verdicts.push(verdict_at(table, *number))?;
-    }
-    Ok(verdicts)
-}
-
-fn verdict_at<'a>(table: &[Option<&'a Verdict>], number: Option<u32>) -> Option<&'a Verdict>
-    ensures { option_copied result ≡ in_table table.now number }
-{
-    match number {
-        Some(number) => match table.get(number as usize) {
-            Some(verdict) => *verdict,
-            None => None,
-        },
-        None => None,
     }
 }

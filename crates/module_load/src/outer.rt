@@ -2,12 +2,11 @@ ghost use Rattle.std.specs.Prelude.{◌≡◌, ◌++◌, [], ◌∷◌, IfOk, On
 ghost use Rattle.std.specs.List.{flat_map};
 ghost use Rattle.std.specs.Option.{option_copied};
 ghost use Rattle.py_tree.specs.Joined.{kind_of, statement_of, statements_of};
-ghost use Rattle.module_load.specs.Decisions.{IsNamedAt, StandAt, imported_names, kind_names, statement_names};
 ghost use Rattle.module_load.specs.Outers as rule;
 
 use crate::globals::ModuleGlobal;
 use crate::import_faults::top_imports;
-use crate::known::{Known, named_count};
+use crate::known::Known;
 use crate::verdict::Verdict;
 use py_tree::statement::{Import, Stmt, StmtKind};
 use py_tree::text::Text;
@@ -24,7 +23,6 @@ pub(crate) fn outer<K: Known>(
     number: u32,
     body: &[Stmt],
 ) -> Result<Outer, AllocError>
-    requires { K.names known.now ≡ imported_names (statements_of body.now) }
     ensures { IfOk result (λ outer. outer ≡ rule.outer (K.decisions known.now) name.now number (statements_of body.now)) }
 {
     let mut bindings = OuterBindings::new(alloc);
@@ -42,32 +40,27 @@ fn put_statements<K: Known>(
     imports: &[Stmt],
     bindings: &mut OuterBindings,
 ) -> Result<(), AllocError>
-    requires { K.names known.now ≡ flat_map statement_names (map statement_of imports.now) }
     ensures { OnOk result (bindings.new ≡ bindings.old ++ flat_map (rule.statement_bindings (K.decisions known.now)) (map statement_of imports.now)) }
 {
-    let mut place = 0;
     for statement in imports {
-        put_statement(alloc, known, place, &statement.kind, bindings)?;
-        place += named_count(&statement.kind);
+        put_statement(alloc, known, &statement.kind, bindings)?;
     }
     Ok(())
 }
 
-/// Puts what a statement binds whose first import has that place.
+/// Puts what a statement binds.
 fn put_statement<K: Known>(
     alloc: Global,
     known: &K,
-    place: usize,
     kind: &StmtKind,
     bindings: &mut OuterBindings,
 ) -> Result<(), AllocError>
-    requires { StandAt (K.names known.now) place (kind_names (kind_of kind.now)) }
     ensures { OnOk result (bindings.new ≡ bindings.old ++ rule.kind_bindings (K.decisions known.now) (kind_of kind.now)) }
 {
     match kind {
         StmtKind::Import(names) => put_modules(alloc, names.as_slice(), bindings),
         StmtKind::From { module, names } => {
-            put_members(alloc, known, place, module, names.as_slice(), bindings)
+            put_members(alloc, known, module, names.as_slice(), bindings)
         }
         _ => Ok(()),
     }
@@ -102,18 +95,16 @@ fn module_kind(alloc: Global) -> OuterKind
 fn put_members<K: Known>(
     alloc: Global,
     known: &K,
-    place: usize,
     from: &Text,
     names: &[Import],
     bindings: &mut OuterBindings,
 ) -> Result<(), AllocError>
-    requires { IsNamedAt (K.names known.now) place from.now }
     ensures { OnOk result (bindings.new ≡ bindings.old ++ rule.members_bindings (K.decisions known.now) from.now names.now) }
 {
     if is_word(from, b"__future__") {
         return Ok(());
     }
-    put_each_member(alloc, known.verdict(place), from, names, bindings)
+    put_each_member(alloc, known.verdict(from), from, names, bindings)
 }
 
 /// Puts what these names bind of a module of which this is decided.

@@ -1,19 +1,17 @@
 ghost use Rattle.std.specs.Prelude.{◌≡◌, ◌<◌, ℕ, Some, true, IfOk, slice_get};
 ghost use Rattle.import_graph.specs.Closure.{count};
-ghost use Rattle.import_graph.specs.Graph.{row_of};
 ghost use Rattle.py_tree.specs.Joined.{module_of};
 ghost use Rattle.py_tree.specs.Lawful.{lawful};
 ghost use Rattle.registry_core.specs.declared.imports.Import.{Import as Row};
-ghost use Rattle.module_load.specs.Folders.{direct_imports, names_of};
+ghost use Rattle.module_load.specs.Folders.{names_of};
 ghost use Rattle.module_load.specs.Needs.{rows_of};
 ghost use Rattle.module_load.specs.Right.{known_in};
 ghost use Rattle.module_load.specs.RightDecisions.{IsRight};
-ghost use Rattle.module_load.specs.Sources.{tree as a_tree};
 ghost use Rattle.module_load.specs.declared.verdict.Verdict.{Verdict as Decision};
 
 use crate::deciding::decide;
-use crate::imported::{imported, numbers};
-use crate::needed::{Needed, by_number, verdicts};
+use crate::folder::places_of;
+use crate::needed::{Needed, by_number};
 use crate::source::{Source, SourceState};
 use crate::verdict::Verdict;
 use lists::{ElementAt, Items};
@@ -26,8 +24,7 @@ use registry_core::loads::Loads;
 use registry_core::sources::Sources;
 use std::alloc::{AllocError, Global};
 
-/// How the modules of a folder are loaded: which is plain, which is refused at which line by which code, and which is published. The sources
-/// are those whose graph is that of their imports.
+/// How the modules of a folder are loaded: which is plain, which is refused at which line by which code, and which is published.
 #[derive(Clone, Copy)]
 pub struct StrictPython;
 
@@ -39,7 +36,6 @@ impl Loads for StrictPython {
     type Data = Verdict;
 
     ghost use Rattle.std.specs.Prelude.{◌≡◌};
-    ghost use Rattle.module_load.specs.Folders.{graph_of};
     ghost use Rattle.module_load.specs.Right.{is_refused, right};
 
     ghost verdict_data = { λ verdict. verdict };
@@ -47,8 +43,6 @@ impl Loads for StrictPython {
     ghost right = { λ loads all m list. right all m list };
 
     ghost is_right = { λ loads all m list verdict. verdict ≡ right all m list };
-
-    ghost is_loadable = { λ loads all. all.graph ≡ graph_of all.list };
 
     ghost is_refused = { λ verdict. is_refused verdict };
 
@@ -88,21 +82,16 @@ fn load_tree(
     imports: &Imports<Verdict>,
 ) -> Result<Verdict, AllocError>
     requires lawful { lawful (module_of tree.now) ≡ true }
-    requires there { «module» < count all.now.graph }
-    requires row { row_of all.now.graph «module» ≡ direct_imports (names_of all.now.list) (a_tree (module_of tree.now)) }
     requires within { (k : ℕ) (row : Row Decision) → slice_get imports.now.rows k ≡ Some row → row.module < count all.now.graph }
     ensures { IfOk result (λ verdict. (decision : Decision) → IsRight (known_in (names_of all.now.list) (rows_of imports.now.rows)) name.now «module» (module_of tree.now) decision → decision ≡ verdict) }
 {
-    let modules = all.list.as_slice();
-    let names = imported(alloc, tree.body.as_slice())?;
-    let numbers = numbers(alloc, modules, all.graph.row(module), names.as_slice())?;
+    let places = places_of(alloc, all.list.as_slice())?;
     let table = by_number(alloc, imports, all.graph.count())?;
-    let verdicts = verdicts(alloc, table.as_slice(), numbers.as_slice())?;
     let needed = Needed {
         all,
         imports,
-        names: names.as_slice(),
-        verdicts: verdicts.as_slice(),
+        places: &places,
+        table: table.as_slice(),
     };
     decide(alloc, tree, name, module, &needed)
 }

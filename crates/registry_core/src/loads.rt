@@ -27,9 +27,6 @@ pub trait Loads {
     /// Which verdicts are right, from the same.
     ghost is_right: { Self → Sources Self.Source → ℕ → List (ℕ × Self.Data) → Self.Verdict → Type 0 };
 
-    /// Of which sources it loads modules.
-    ghost is_loadable: { Self → Sources Self.Source → Type 0 };
-
     /// Whether data is that of a refused module.
     ghost is_refused: { Self.Data → Bool };
 
@@ -41,7 +38,6 @@ pub trait Loads {
         module: u32,
         imports: &Imports<Self::Verdict>,
     ) -> Result<Self::Verdict, AllocError>
-        requires loadable { is_loadable self.now all.now }
         requires there { «module» < count all.now.graph }
         requires imports { Gathers right is_right is_refused (Some self.now) (Some all.now) «module» imports.now.rows }
         ensures { IfOk result (λ verdict. IsWorld right is_right is_refused (Some self.now) (Some all.now) «module» verdict) };

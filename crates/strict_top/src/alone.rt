@@ -29,7 +29,6 @@ pub(crate) fn decide_alone<L: Loads>(
     all: Sources<L::Source>,
     loads: &L,
 ) -> Result<World<L>, AllocError>
-    requires { L.is_loadable loads.now all }
     ensures { IfOk result (λ world. IsWhole L.verdict_data L.right L.is_right L.is_refused (Some loads.now) (Some all) world) }
 {
     let all = Arc::new(alloc, all)?;
@@ -48,7 +47,6 @@ fn decide_named<L: Loads, N: Naming<L, L::Source>>(
     requires some { 0 < N.parts }
     requires loads { N.loads ≡ Some loads.now }
     requires sources { N.sources ≡ Some (arc_value all.now) }
-    requires loadable { L.is_loadable loads.now (arc_value all.now) }
     ensures { IfOk result (λ world. IsWorldOf L.Loads N.Naming.own world) }
 {
     let registry = decided_registry::<L, N>(alloc, all, loads, blank)?;
@@ -70,7 +68,6 @@ fn decided_registry<L: Loads, N: Naming<L, L::Source>>(
     requires some { 0 < N.parts }
     requires loads { N.loads ≡ Some loads.now }
     requires sources { N.sources ≡ Some (arc_value all.now) }
-    requires loadable { L.is_loadable loads.now (arc_value all.now) }
     ensures { IfOk result (λ registry. list_all is_decided registry.slots ≡ true) }
 {
     let mut room = Imports::with_room(alloc, all.graph.count())?;
@@ -90,7 +87,6 @@ fn decide_each<L: Loads, N: Naming<L, L::Source>>(
 ) -> Result<(), AllocError>
     requires loads { N.loads ≡ Some loads.now }
     requires sources { N.sources ≡ Some all.now }
-    requires loadable { L.is_loadable loads.now all.now }
     requires part { 0 < share.old.parts }
     requires room { module_count N.Naming.own ≤ room.old.room }
     requires none_claimed { list_any is_claimed registry.old.slots ≡ false }
@@ -141,7 +137,6 @@ fn decide<L: Loads, N: Naming<L, L::Source>>(
 ) -> Result<(), AllocError>
     requires loads { N.loads ≡ Some loads.now }
     requires sources { N.sources ≡ Some all.now }
-    requires loadable { L.is_loadable loads.now all.now }
     requires there { claim.module < module_count N.Naming.own }
     requires slot { slot_at registry.old.slots claim.module ≡ Slot.Claimed claim.loader }
     requires share { 1 ≤ share.old.amount }

@@ -5,5 +5,5 @@ use Rattle.symbols.specs.FirstFaults.{IsFirstOf}
 use Rattle.module_load.specs.Imports as rule
 use Rattle.module_load.proofs.import_faults.first_module_fault.Given as goal
 
-abbrev pub invariant-loop-at : goal.invariant-loop-at
-invariant-loop-at g l = IsFirstOf (flat_map (λ (i : Import). rule.module_faults (g.K.Known.decisions l.known) l.line i.name) (take l.at l.names)) l.first
+abbrev pub invariant-loop-import : goal.invariant-loop-import
+invariant-loop-import g l = IsFirstOf (flat_map (λ (i : Import). rule.module_faults (g.K.Known.decisions l.known) l.line i.name) (take l.import-index l.names)) l.first

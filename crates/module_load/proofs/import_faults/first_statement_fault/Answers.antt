@@ -1,5 +1,5 @@
 -- One statement on, and behind the last.
-use Rattle.std.proofs.Common.{subst, sym, ◌∙◌, ap, arith}
+use Rattle.std.proofs.Common.{subst, sym, ◌∙◌, ap}
 use Rattle.std.specs.List.{flat_map}
 use Rattle.std.proofs.lemmas.List.{take_all}
 use Rattle.std.proofs.lemmas.List.Folds.{flat_map-map}
@@ -9,31 +9,17 @@ use Rattle.symbols.specs.FirstFaults.{IsFirstOf}
 use Rattle.module_load.specs.Imports as rule
 use Rattle.module_load.proofs.FirstOnes.{first_with}
 use Rattle.module_load.proofs.Statements.{statement_is}
-use Rattle.module_load.proofs.Walks.{stands_turn, stand_within, count_turn}
 use Rattle.module_load.proofs.import_faults.first_statement_fault.Goals as goal
-
-pub kind_fault-fault-requires : goal.kind_fault-fault-requires
-kind_fault-fault-requires g c =
-    stands_turn (g.K.Known.names c.args.known.now) c.args.imports.now c.loop-statement.statement-index c.loop-statement.place c.statement-item.result c.requires c.loop-statement-test.true c.statement-item.is c.loop-statement.invariant.front
-
-pub overflow_add-place : goal.overflow_add-place
-overflow_add-place g c =
-    let s = c.statement-item.result in
-    let stands = stands_turn (g.K.Known.names c.args.known.now) c.args.imports.now c.loop-statement.statement-index c.loop-statement.place s c.requires c.loop-statement-test.true c.statement-item.is c.loop-statement.invariant.front in
-    omega (arith, stand_within _ _ _ stands, g.met.K.Known.few c.args.known.now, c.named_count-place.ensures)
 
 pub loop-statement-preserved : goal.loop-statement-preserved
 loop-statement-preserved g c =
     let faults_at = rule.statement_faults (g.K.Known.decisions c.args.known.now) c.args.importing in
     let here = subst (λ s. IsFirstOf (faults_at s) c.kind_fault-fault.result) (sym (statement_is c.statement-item.result)) c.kind_fault-fault.ensures in
-    record {
-      found = rw c.earlier-first.ensures (first_with (λ (s : Stmt). faults_at (statement_of s)) c.args.imports.now c.loop-statement.statement-index c.statement-item.result c.loop-statement.first c.kind_fault-fault.result c.loop-statement-test.true c.statement-item.is c.loop-statement.invariant.found here);
-      front = count_turn c.args.imports.now c.loop-statement.statement-index c.loop-statement.place c.named_count-place.result c.statement-item.result c.loop-statement-test.true c.statement-item.is c.loop-statement.invariant.front c.named_count-place.ensures;
-    }
+    rw c.earlier-first.ensures (first_with (λ (s : Stmt). faults_at (statement_of s)) c.args.imports.now c.loop-statement.statement-index c.statement-item.result c.loop-statement.first c.kind_fault-fault.result c.loop-statement-test.true c.statement-item.is c.loop-statement.invariant here)
 
 pub returns : goal.returns
 returns g c =
     let imports = c.args.imports.now in
     let faults_at = rule.statement_faults (g.K.Known.decisions c.args.known.now) c.args.importing in
     let whole = ap (flat_map (λ (s : Stmt). faults_at (statement_of s))) (take_all c.loop-statement.statement-index imports c.loop-statement-test.false) in
-    subst (λ faults. IsFirstOf faults c.loop-statement.first) (whole ∙ sym (flat_map-map faults_at statement_of imports)) c.loop-statement.invariant.found
+    subst (λ faults. IsFirstOf faults c.loop-statement.first) (whole ∙ sym (flat_map-map faults_at statement_of imports)) c.loop-statement.invariant

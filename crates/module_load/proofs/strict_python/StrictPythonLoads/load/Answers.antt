@@ -8,11 +8,8 @@ use Rattle.module_load.specs.declared.verdict.Verdict.{Verdict}
 use Rattle.module_load.specs.Folders.{names_of}
 use Rattle.module_load.specs.Right.{is_refused, known_in, right}
 use Rattle.module_load.specs.RightDecisions.{IsRight}
-use Rattle.module_load.proofs.Loading.{as_list, row_is, rows_within, tree_right}
+use Rattle.module_load.proofs.Loading.{as_list, rows_within, tree_right}
 use Rattle.module_load.proofs.strict_python.StrictPythonLoads.load.Goals as goal
-
-pub load_tree-requires-clause-row : goal.load_tree-requires-clause-row
-load_tree-requires-clause-row c = row_is c.args.all.now c.args.module c.at-source.result.now c.in-Tree.tree c.requires.loadable c.at-source.ensures c.in-Tree.is
 
 pub load_tree-requires-clause-within : goal.load_tree-requires-clause-within
 load_tree-requires-clause-within c = rows_within c.args.self.now c.args.all.now c.args.module c.args.imports.now.rows c.requires.imports
