@@ -3,10 +3,9 @@ ghost use Rattle.std.specs.List.{filter_map, position};
 ghost use Rattle.std.specs.Str.{bytes_eq};
 ghost use Rattle.module_load.specs.EveryFolder.{EveryFolder};
 ghost use Rattle.module_load.specs.Folders.{AreSources, IsSources, OneFolder, direct_import, direct_imports, file_of, graph_of, names_of};
-ghost use Rattle.module_load.specs.NamePlaces.{ArePlacesOf};
+ghost use Rattle.module_load.specs.NamePlaces.{AreNumbersOf};
 ghost use Rattle.module_load.specs.Sources.{state_of};
 
-use crate::name_places::NamePlaces;
 use crate::preparing::prepare;
 use crate::source::{Source, SourceState};
 use import_graph::graph::{Graph, build_graph};
@@ -16,6 +15,7 @@ use lists::Items;
 use py_tree::text::Text;
 use registry_core::sources::Sources;
 use std::alloc::{AllocError, Global};
+use symbols::name_map::NameMap;
 
 /// The file of a module.
 #[derive(Drop)]
@@ -62,40 +62,40 @@ fn graph_of(alloc: Global, list: &[Source]) -> Result<Graph, AllocError>
     requires { length list.now ≤ 4294967295 }
     ensures { IfOk result (λ graph. graph ≡ graph_of list.now) }
 {
-    let places = places_of(alloc, list)?;
+    let numbers = numbers_of(alloc, list)?;
     let mut rows = Items::new(alloc);
     for source in list {
-        rows.push(direct_imports(alloc, list, &places, source)?)?;
+        rows.push(direct_imports(alloc, list, &numbers, source)?)?;
     }
     build_graph(alloc, &rows)
 }
 
-/// Where each name first stands.
-pub(crate) fn places_of(alloc: Global, list: &[Source]) -> Result<NamePlaces, AllocError>
-    ensures { IfOk result (λ places. ArePlacesOf places (names_of list.now)) }
+/// The number of each name: that of the first module that has it.
+pub(crate) fn numbers_of(alloc: Global, list: &[Source]) -> Result<NameMap<'_, usize>, AllocError>
+    ensures { IfOk result (λ numbers. AreNumbersOf numbers (names_of list.now)) }
 {
-    let mut places = NamePlaces::new(alloc);
-    for (place, source) in list.iter().enumerate() {
-        places.note(alloc, &source.name, place)?;
+    let mut numbers = NameMap::new(alloc);
+    for (number, source) in list.iter().enumerate() {
+        numbers.keep(&source.name, number)?;
     }
-    Ok(places)
+    Ok(numbers)
 }
 
 /// Which of these modules the source imports, in the order of its text.
 fn direct_imports(
     alloc: Global,
     list: &[Source],
-    places: &NamePlaces,
+    numbers: &NameMap<'_, usize>,
     source: &Source,
 ) -> Result<GraphRow, AllocError>
     requires few { length list.now ≤ 4294967295 }
-    requires places { ArePlacesOf places.now (names_of list.now) }
+    requires numbers { AreNumbersOf numbers.now (names_of list.now) }
     ensures { IfOk result (λ row. row ≡ direct_imports (names_of list.now) (state_of source.now.state)) }
 {
     match &source.state {
         SourceState::Tree(tree) => {
             let rows = imports_of(alloc, tree)?;
-            numbered(alloc, list, places, rows.as_slice())
+            numbered(alloc, list, numbers, rows.as_slice())
         }
         _ => Ok(Items::new(alloc)),
     }
@@ -105,16 +105,16 @@ fn direct_imports(
 fn numbered(
     alloc: Global,
     list: &[Source],
-    places: &NamePlaces,
+    numbers: &NameMap<'_, usize>,
     rows: &[ImportRow],
 ) -> Result<GraphRow, AllocError>
     requires few { length list.now ≤ 4294967295 }
-    requires places { ArePlacesOf places.now (names_of list.now) }
+    requires numbers { AreNumbersOf numbers.now (names_of list.now) }
     ensures { IfOk result (λ row. row ≡ filter_map (direct_import (names_of list.now)) rows.now) }
 {
     let mut direct = Items::new(alloc);
     for row in rows {
-        if let Some(number) = number_of(list, places, &row.module) {
+        if let Some(number) = number_of(list, numbers, &row.module) {
             direct.push(DirectImport {
                 line: row.line,
                 module: number,
@@ -125,13 +125,13 @@ fn numbered(
 }
 
 /// The number of the first of these modules that has the name.
-fn number_of(list: &[Source], places: &NamePlaces, name: &Text) -> Option<u32>
+fn number_of(list: &[Source], numbers: &NameMap<'_, usize>, name: &Text) -> Option<u32>
     requires few { length list.now ≤ 4294967295 }
-    requires places { ArePlacesOf places.now (names_of list.now) }
+    requires numbers { AreNumbersOf numbers.now (names_of list.now) }
     ensures { result ≡ position (bytes_eq name.now) (names_of list.now) }
 {
-    match places.get(name) {
-        Some(place) => Some(place as u32),
+    match numbers.get(name) {
+        Some(number) => Some(number as u32),
         None => None,
     }
 }

@@ -2,32 +2,32 @@ ghost use Rattle.std.specs.Prelude.{◌≡◌, ◌<◌, ◌==◌, ℕ, None, if�
 ghost use Rattle.std.specs.Option.{option_or};
 ghost use Rattle.registry_core.specs.declared.imports.Import.{Import as Row};
 ghost use Rattle.module_load.specs.Folders.{names_of};
-ghost use Rattle.module_load.specs.NamePlaces.{ArePlacesOf};
+ghost use Rattle.module_load.specs.NamePlaces.{AreNumbersOf};
 ghost use Rattle.module_load.specs.Needs.{IsTableOf, in_table};
 
 use crate::known::Known;
-use crate::name_places::NamePlaces;
 use crate::source::Source;
 use crate::verdict::Verdict;
 use py_tree::text::Text;
 use registry_core::imports::Imports;
 use registry_core::sources::Sources;
 use std::alloc::{AllocError, Global};
+use symbols::name_map::NameMap;
 
 /// What is decided of the modules that a module needs, by their names.
 #[derive(Clone, Copy)]
-pub(crate) struct Needed<'a> {
+pub(crate) struct Needed<'a, 'n> {
     pub(crate) all: &'a Sources<Source>,
     pub(crate) imports: &'a Imports<Verdict>,
     /// The numbers of the modules, by their names.
-    pub(crate) places: &'a NamePlaces,
+    pub(crate) numbers: &'a NameMap<'n, usize>,
     /// The verdicts, by the numbers of their modules.
     pub(crate) table: &'a [Option<&'a Verdict>],
-    ghost named: { ArePlacesOf places.now (names_of all.now.list) },
+    ghost named: { AreNumbersOf numbers.now (names_of all.now.list) },
     ghost numbered: { IsTableOf (length all.now.list) imports.now.rows table.now },
 }
 
-impl<'a> Known for Needed<'a> {
+impl<'a, 'n> Known for Needed<'a, 'n> {
     ghost use Rattle.registry_core.specs.Verdicts.{data_list};
     ghost use Rattle.module_load.specs.Folders.{names_of};
     ghost use Rattle.module_load.specs.Right.{known_in};
@@ -35,7 +35,7 @@ impl<'a> Known for Needed<'a> {
     ghost decisions = { λ needed. known_in (names_of needed.all.now.list) (data_list (λ verdict. verdict) needed.imports.now.rows) };
 
     fn verdict(&self, name: &Text) -> Option<&Verdict> {
-        match self.places.get(name) {
+        match self.numbers.get(name) {
             Some(number) => self.table[number],
             None => None,
         }

@@ -10,7 +10,7 @@ ghost use Rattle.module_load.specs.RightDecisions.{IsRight};
 ghost use Rattle.module_load.specs.declared.verdict.Verdict.{Verdict as Decision};
 
 use crate::deciding::decide;
-use crate::folder::places_of;
+use crate::folder::numbers_of;
 use crate::needed::{Needed, by_number};
 use crate::source::{Source, SourceState};
 use crate::verdict::Verdict;
@@ -85,12 +85,12 @@ fn load_tree(
     requires within { (k : ℕ) (row : Row Decision) → slice_get imports.now.rows k ≡ Some row → row.module < count all.now.graph }
     ensures { IfOk result (λ verdict. (decision : Decision) → IsRight (known_in (names_of all.now.list) (rows_of imports.now.rows)) name.now «module» (module_of tree.now) decision → decision ≡ verdict) }
 {
-    let places = places_of(alloc, all.list.as_slice())?;
+    let numbers = numbers_of(alloc, all.list.as_slice())?;
     let table = by_number(alloc, imports, all.graph.count())?;
     let needed = Needed {
         all,
         imports,
-        places: &places,
+        numbers: &numbers,
         table: table.as_slice(),
     };
     decide(alloc, tree, name, module, &needed)

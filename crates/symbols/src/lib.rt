@@ -20,7 +20,7 @@ pub mod imports;
 mod kinds;
 mod lineage;
 mod module_uses;
-mod name_map;
+pub mod name_map;
 pub mod names;
 pub mod outer;
 mod parts;

@@ -10,7 +10,7 @@ use std::alloc::{AllocError, Global};
 
 /// Names, each with a value.
 #[derive(Drop)]
-pub(crate) struct NameMap<'a, V> {
+pub struct NameMap<'a, V> {
     map: IndexMap<&'a [char], V>,
 }
 

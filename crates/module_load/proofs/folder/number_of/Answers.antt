@@ -11,8 +11,8 @@ use Rattle.module_load.proofs.folder.number_of.Goals as goal
 pub overflow_cast-result : goal.overflow_cast-result
 overflow_cast-result c =
     let names = names_of c.args.list.now in
-    let at : position (bytes_eq c.args.name.now) names ≡ Some c.in-Some.place = sym (c.requires.places c.args.name.now) ∙ sym c.get.ensures ∙ c.in-Some.is in
-    omega (arith, (found_at (bytes_eq c.args.name.now) names c.in-Some.place at).0, length-map c.args.list.now (λ (s : Source). s.name), c.requires.few)
+    let at : position (bytes_eq c.args.name.now) names ≡ Some c.in-Some.number = sym (c.requires.numbers c.args.name.now) ∙ sym c.get.ensures ∙ c.in-Some.is in
+    omega (arith, (found_at (bytes_eq c.args.name.now) names c.in-Some.number at).0, length-map c.args.list.now (λ (s : Source). s.name), c.requires.few)
 
 pub returns-in-Some : goal.returns-in-Some
-returns-in-Some c = sym c.in-Some.is ∙ c.get.ensures ∙ c.requires.places c.args.name.now
+returns-in-Some c = sym c.in-Some.is ∙ c.get.ensures ∙ c.requires.numbers c.args.name.now
