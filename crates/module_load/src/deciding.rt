@@ -105,7 +105,7 @@ fn is_module(kind: &OuterKind) -> bool
 fn held(alloc: Global, modules: &Names<'_>, names: &[Text]) -> Result<Globals, AllocError>
     ensures { IfOk result (λ globals. globals ≡ rule.held modules.now names.now) }
 {
-    let mut rows = Items::new(alloc);
+    let mut rows = Items::from_vec(Vec::with_capacity(alloc, names.len())?);
     for name in names {
         rows.push(ModuleGlobal {
             name: name.copy(alloc)?,

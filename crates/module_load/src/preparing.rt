@@ -91,7 +91,7 @@ pub fn parse(alloc: Global, bytes: &[u8]) -> Result<Module, Stop>
 fn forms_of(alloc: Global, lines: &[LogicalLine]) -> Result<FormLines, Stop>
     ensures { IsFormed lines.now result }
 {
-    let mut forms = FormLines::new(alloc);
+    let mut forms = FormLines::from_vec(Vec::with_capacity(alloc, lines.len())?);
     for line in lines {
         let made = line_form(alloc, line)?;
         let form = Boxed::new(alloc, made)?;

@@ -85,7 +85,7 @@ fn read(alloc: Global, builder: Builder, row: FormLine) -> Result<Builder, Stop>
 fn last_first(alloc: Global, mut forms: FormLines) -> Result<FormLines, AllocError>
     ensures { IfOk result (λ turned. turned ≡ reverse forms) }
 {
-    let mut turned = FormLines::new(alloc);
+    let mut turned = FormLines::from_vec(Vec::with_capacity(alloc, forms.len())?);
     while let Some(form) = forms.pop() {
         turned.push(form)?;
     }

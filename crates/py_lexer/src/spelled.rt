@@ -76,10 +76,17 @@ const MARKS: [(&[u8], Mark); 27] = [
     (b".", Mark::Dot),
 ];
 
+/// The most letters of a keyword.
+const GREATEST_LEN: usize = 8;
+
 /// The keyword that a name spells.
+#[tactic(auto, using(crate::proofs::Tables::longer_is_none))]
 pub(crate) fn keyword_of(name: &[char]) -> Option<Keyword>
     ensures { result ≡ keyword_of name.now }
 {
+    if name.len() > GREATEST_LEN {
+        return None;
+    }
     keyword_among(name, &KEYWORDS)
 }
 

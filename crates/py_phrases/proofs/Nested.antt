@@ -1,5 +1,5 @@
 -- The steps of a phrase count its nesting.
-use Rattle.std.proofs.Common.{◌≡◌, ℕ, suc, ◌+◌, ◌-◌, ◌<◌, ◌≤◌, max, List, [], ◌∷◌, Some, None, refl, ap, ◌∙◌, arith}
+use Rattle.std.proofs.Common.{◌≡◌, ℕ, zero, suc, ◌+◌, ◌-◌, ◌<◌, ◌≤◌, max, length, List, [], ◌∷◌, Option, Some, None, refl, ap, ◌∙◌, arith}
 use Rattle.py_tree.specs.Syntax as x
 use Rattle.py_tree.specs.Syntax.{Expression, Expressions, Pairs, Keywords}
 use Rattle.py_tree.specs.Nesting.{nesting, deepest, deepest_pair, deepest_keyword}
@@ -7,8 +7,9 @@ use Rattle.py_phrases.specs.Grammar as g
 use Rattle.py_phrases.specs.Grammar.{Tokens, Level, Spells, Joined, Items, Entries, Arguments, KeywordsAt}
 use Rattle.py_phrases.specs.Machine as m
 use Rattle.py_phrases.specs.Machine.{Step, Steps}
-use Rattle.py_phrases.specs.Emitted.{count, count_pairs, count_keywords, emit, emit_text, emit_items, emit_entries, emit_arguments, emit_keywords, over, nestings}
-use Rattle.py_phrases.specs.Views.{top, rest}
+use Rattle.py_phrases.specs.Emitted.{count, count_pairs, count_keywords, emit, emit_text, emit_items, emit_entries, emit_arguments, emit_keywords, nest, over, nestings, parts}
+use Rattle.py_phrases.specs.Views.{step_of, steps_of, top, rest}
+use Rattle.py_phrases.specs.declared.machine.Step as code_step
 
 nesting_one : (e : Expression) → 1 ≤ nesting e
 nesting_one x.Nil = omega arith
@@ -31,6 +32,21 @@ nesting_one (x.Cond a b c) = omega arith
 nesting_one (x.Attr a n) = omega arith
 nesting_one (x.Index a b) = omega arith
 nesting_one (x.Call a es ks) = omega arith
+
+-- ---- one step alone
+
+over_none : (count k : ℕ) (o : List ℕ) → over count 0 [] ≡ k ∷ o → 1 ≡ k
+over_none zero k o is = grind arith
+over_none (suc count) k o is = grind arith
+
+nest_none : (count : Option ℕ) (k : ℕ) (o : List ℕ) → nest count [] ≡ k ∷ o → 1 ≡ k
+nest_none None k o is = grind arith
+nest_none (Some count) k o is = over_none count k o is
+
+pub one_alone : (steps : List code_step.Step) → 1 ≤ length steps → length steps < 2 → (k : ℕ) (o : List ℕ) → nestings (steps_of steps) ≡ k ∷ o → 1 ≡ k
+one_alone [] some few k o is = omega (arith, some)
+one_alone (s ∷ []) some few k o is = nest_none (parts (step_of s)) k o is
+one_alone (s ∷ t ∷ more) some few k o is = omega (arith, few)
 
 -- the nestings of lists, the first deepest on the stack
 

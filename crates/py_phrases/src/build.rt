@@ -1,4 +1,5 @@
-ghost use Rattle.std.specs.Prelude.{◌≡◌, ◌++◌, ◌∷◌, reverse, OnOk, IfOk};
+ghost use Rattle.std.specs.Prelude.{◌≡◌, ◌++◌, [], ◌∷◌, reverse, OnOk, IfOk};
+ghost use Rattle.std.specs.Option.{ForSome};
 ghost use Rattle.py_tree.specs.Joined.{expression_of, expressions_of, pair_of, keyword_of, keywords_of};
 ghost use Rattle.py_tree.specs.Syntax as x;
 ghost use Rattle.py_phrases.specs.Emitted as m;
@@ -375,10 +376,27 @@ pub fn build_all(alloc: Global, steps: &[Step]) -> Result<Vec<Expr>, AllocError>
     Ok(trees)
 }
 
+/// The tree that a step builds alone, where it is a leaf.
+fn leaf(alloc: Global, step: Step) -> Result<Option<Expr>, AllocError>
+    ensures { IfOk result (λ leaf. ForSome leaf (λ tree. m.trees (step_of step.entry ∷ []) ≡ expression_of tree ∷ [])) }
+{
+    match step {
+        Step::PutName(name) => Ok(Some(Expr::Name(name.copy(alloc)?))),
+        Step::PutInt(n) => Ok(Some(Expr::Int(n))),
+        Step::PutText(text) => Ok(Some(Expr::Str(text.copy(alloc)?))),
+        _ => Ok(None),
+    }
+}
+
 /// The tree that the steps build.
 pub fn build(alloc: Global, steps: &[Step]) -> Result<Option<Expr>, AllocError>
     ensures { IfOk result (λ built. BuildsTop built (m.trees (steps_of steps.now))) }
 {
+    if let [step] = steps {
+        if let Some(tree) = leaf(alloc, *step)? {
+            return Ok(Some(tree));
+        }
+    }
     let mut trees = build_all(alloc, steps)?;
     Ok(trees.pop())
 }

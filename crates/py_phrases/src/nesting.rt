@@ -66,8 +66,18 @@ fn nest(numbers: &mut Vec<usize>, step: Step) -> Result<(), AllocError>
     }
 }
 
-/// The nesting of the tree that the steps build.
+/// The nesting of the tree that the steps build. One step alone builds a tree without parts.
 pub fn nesting_of(alloc: Global, steps: &[Step]) -> Result<usize, AllocError>
+    ensures { IfOk result (λ n. (k : ℕ) (o : List ℕ) → m.nestings (steps_of steps.now) ≡ k ∷ o → n ≡ k) }
+{
+    match steps {
+        [_] => Ok(1),
+        _ => counted(alloc, steps),
+    }
+}
+
+/// The nesting of the tree that the steps build, by the nestings of its parts.
+fn counted(alloc: Global, steps: &[Step]) -> Result<usize, AllocError>
     ensures { IfOk result (λ n. (k : ℕ) (o : List ℕ) → m.nestings (steps_of steps.now) ≡ k ∷ o → n ≡ k) }
 {
     let mut numbers = Vec::new(alloc);

@@ -27,6 +27,10 @@ list_any_pointed name (key ∷ keys) = ap (λ b. bytes_eq name key.now || b) (li
 pub length_pointed : (keys : List (Bor (List ℕ))) → length keys ≡ length (pointed keys)
 length_pointed keys = sym (length-map keys (λ key. key.now))
 
+pub flat_map_pointed : (f : List ℕ → List ℕ) (keys : List (Bor (List ℕ))) → flat_map (λ key. f key.now) keys ≡ flat_map f (pointed keys)
+flat_map_pointed f [] = refl
+flat_map_pointed f (key ∷ keys) = ap (λ more. f key.now ++ more) (flat_map_pointed f keys)
+
 pub pointed_insert_key : (keys : List (Bor (List ℕ))) (key : Bor (List ℕ)) → pointed (insert_key (λ a b. bytes_eq a.now b.now) keys key) ≡ with_name (pointed keys) key.now
 pointed_insert_key keys key = by (among key.now (pointed keys)) refl
   where

@@ -16,7 +16,7 @@ use std::alloc::{AllocError, Global};
 pub(crate) fn bindings_of(alloc: Global, body: &[Stmt]) -> Result<Bindings, AllocError>
     ensures { IfOk result (λ all. all ≡ spec.bindings (statements_of body.now)) }
 {
-    let mut all = Bindings::new(alloc);
+    let mut all = Bindings::from_vec(Vec::with_capacity(alloc, body.len())?);
     put_block(body, alloc, &mut all)?;
     Ok(all)
 }

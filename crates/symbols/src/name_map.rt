@@ -27,7 +27,14 @@ impl<'a, V: Copy> NameMap<'a, V> {
     pub fn get(&self, name: &Text) -> Option<V>
         ensures { result ≡ found self.now name.now }
     {
-        self.map.get(name.as_slice()).copied()
+        self.of_points(name.as_slice())
+    }
+
+    /// The value of the name of these code points.
+    pub fn of_points(&self, name: &[char]) -> Option<V>
+        ensures { result ≡ found self.now name.now }
+    {
+        self.map.get(name).copied()
     }
 
     /// Gives a name its value in place of the one that it has.

@@ -1,4 +1,4 @@
-ghost use Rattle.std.specs.Prelude.{◌≡◌, [], IfOk, OnErr, OnOk, length, not};
+ghost use Rattle.std.specs.Prelude.{◌≡◌, [], IfOk, OnErr, OnOk, length, map, not};
 ghost use Rattle.symbols.specs.Names.{with_name};
 ghost use Rattle.symbols.specs.Words.{among};
 
@@ -56,11 +56,18 @@ impl<'a> Names<'a> {
         self.set.len()
     }
 
+    /// The names.
+    pub(crate) fn as_slice(&self) -> &[&'a [char]]
+        ensures { map (λ name. name.now) result.now ≡ self.now }
+    {
+        self.set.as_slice()
+    }
+
     /// They as texts.
     pub fn texts(&self, alloc: Global) -> Result<Texts, AllocError>
         ensures { IfOk result (λ texts. texts ≡ self.now) }
     {
-        let mut texts = Texts::new(alloc);
+        let mut texts = Texts::from_vec(Vec::with_capacity(alloc, self.set.len())?);
         for name in self.set.as_slice() {
             texts.push(Text::from_slice(alloc, name)?)?;
         }

@@ -13,7 +13,6 @@ use crate::kinds::Kinds;
 use crate::name_map::NameMap;
 use crate::names::Names;
 use crate::special_lines::Lines;
-use py_tree::text::Text;
 use std::alloc::{AllocError, Global};
 
 /// What is known of the bindings of one name.
@@ -65,8 +64,7 @@ fn again(alloc: Global, bindings: &[Binding], wanted: Kinds) -> Result<Lines, Al
 {
     let repeats = repeats_in(alloc, bindings)?;
     let names = names_in(alloc, bindings)?;
-    let texts = names.texts(alloc)?;
-    lines_of(alloc, texts.as_slice(), &repeats, wanted)
+    lines_of(alloc, names.as_slice(), &repeats, wanted)
 }
 
 /// What is known of each name.
@@ -96,15 +94,15 @@ fn names_in(alloc: Global, bindings: &[Binding]) -> Result<Names<'_>, AllocError
 /// The lines of the second bindings of names that have some of these kinds.
 fn lines_of(
     alloc: Global,
-    names: &[Text],
+    names: &[&[char]],
     repeats: &NameMap<'_, Repeats>,
     wanted: Kinds,
 ) -> Result<Lines, AllocError>
-    ensures { IfOk result (λ lines. lines ≡ flat_map (λ name. seconds wanted.0 (found repeats.now name)) names.now) }
+    ensures { IfOk result (λ lines. lines ≡ flat_map (λ name. seconds wanted.0 (found repeats.now name.now)) names.now) }
 {
     let mut lines = Lines::new(alloc);
     for name in names {
-        if let Some(known) = repeats.get(name) {
+        if let Some(known) = repeats.of_points(name) {
             put_second(known, wanted, &mut lines)?;
         }
     }

@@ -10,7 +10,7 @@ use std::alloc::{AllocError, Global};
 pub(crate) fn scope_of(alloc: Global, body: &[Stmt]) -> Result<Vec<&Stmt>, AllocError>
     ensures { IfOk result (λ all. seen all.items ≡ of_scope (statements_of body.now)) }
 {
-    let mut all = Vec::new(alloc);
+    let mut all = Vec::with_capacity(alloc, body.len())?;
     put_block(body, &mut all)?;
     Ok(all)
 }

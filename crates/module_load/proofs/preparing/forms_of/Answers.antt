@@ -19,7 +19,7 @@ returns-in_err-made c =
     let lines = c.args.lines.now in
     let k = c.loop-line.line-index in
     let here = at_line lines (rows_of c.loop-line.forms) k c.line-item.result c.loop-line-test.true c.line-item.is c.loop-line.invariant in
-    let p = err_from_is_err_and c.from_residual.result c.from_residual.ensures.1 in
+    let p = err_from_is_err_and c.from_residual-in_err-made.result c.from_residual-in_err-made.ensures.1 in
     rw (p.1, p.2) (stopped lines (drop (k + 1) lines) c.line-item.result (rows_of c.loop-line.forms) c.in_err-made.field-0.0 here c.in_err-made.ensures.so)
 
 pub returns : goal.returns
