@@ -1,12 +1,16 @@
 -- Folders: names and their numbers, rows that name modules, and sources one by one.
-use Rattle.std.proofs.Common.{◌≡◌, ◌⊎◌, ◌<◌, ◌+◌, ℕ, zero, suc, Bool, true, false, not, cond, ◌&&◌, List, [], ◌∷◌, ◌++◌, length, map, take, get_or, Option, Some, None, slice_get, nat_lt, inl, inr, refl, sym, ap, subst, ◌∙◌, arith}
-use Rattle.std.specs.List.{cons_option, filter_map, list_all, position, position_or_len, prefix_len}
+use Rattle.std.proofs.Common.{◌≡◌, ◌⊎◌, ◌<◌, ◌+◌, ℕ, zero, suc, Bool, true, false, not, cond, ◌&&◌, List, [], ◌∷◌, ◌++◌, length, map, take, get_or, Option, Some, None, slice_get, nat_lt, inl, inr, refl, sym, ap, subst, ◌∙◌, arith, append_assoc}
+use Rattle.std.specs.List.{cons_option, filter_map, flat_map, list_all, position, position_or_len, prefix_len}
 use Rattle.std.specs.Option.{option_map}
 use Rattle.std.specs.Str.{bytes_eq}
-use Rattle.std.proofs.lemmas.List.{append-nil, length-map, take_more}
+use Rattle.std.proofs.lemmas.List.{append-nil, length-map, map-append, take_more}
+use Rattle.std.proofs.lemmas.List.Concat.{flat_map-append}
 use Rattle.std.proofs.lemmas.List.Elements.{filter_map-append}
 use Rattle.std.proofs.lemmas.Option.{slice_get-map, slice_get_read}
 use Rattle.py_tree.specs.Syntax.{Text}
+use Rattle.py_tree.specs.Joined.{statement_of}
+use Rattle.py_tree.specs.declared.statement.Stmt.{Stmt}
+use Rattle.import_graph.specs.Imports.{rows_of}
 use Rattle.import_graph.specs.declared.imports.ImportRow.{ImportRow}
 use Rattle.import_graph.specs.declared.rows.DirectImport.{DirectImport}
 use Rattle.import_graph.specs.Graph.{is_graph}
@@ -75,19 +79,36 @@ graph_whole list =
 
 -- ---- a row, import by import
 
-numbered_next : (names : List Text) (rows : List ImportRow) (k : ℕ) (row : ImportRow) (old new : List DirectImport) (o : Option ℕ) → k < length rows → row ≡ get_or rows k row → position (bytes_eq row.module) names ≡ o → old ≡ filter_map (direct_import names) (take k rows) → new ≡ old ++ cons_option (option_map (at row.line) o) [] → new ≡ filter_map (direct_import names) (take (k + 1) rows)
-numbered_next names rows k row old new o l is number before e =
-    let h = direct_import names in
-    e ∙ ap (λ (n : Option ℕ). old ++ cons_option (option_map (at row.line) n) []) (sym number) ∙ ap (λ (xs : List DirectImport). xs ++ filter_map h (row ∷ [])) before
-    ∙ sym (filter_map-append h (take k rows) (row ∷ []))
-    ∙ ap (λ (r : ImportRow). filter_map h (take k rows ++ r ∷ [])) is
-    ∙ ap (filter_map h) (sym (take_more rows k row l))
+pub kept_turn : {X Z Y : Type 0} (r : X → Z) (h : Z → Option Y) (xs : List X) (k : ℕ) (x : X) (first old new : List Y) → k < length xs → x ≡ get_or xs k x → new ≡ old ++ cons_option (h (r x)) []
+    → old ≡ first ++ filter_map h (map r (take k xs)) → new ≡ first ++ filter_map h (map r (take (k + 1) xs))
+kept_turn r h xs k x first old new l is e before =
+    e ∙ ap (λ ys. ys ++ filter_map h (map r (x ∷ []))) before
+    ∙ append_assoc first (filter_map h (map r (take k xs))) (filter_map h (map r (x ∷ [])))
+    ∙ ap (λ ys. first ++ ys) (sym (filter_map-append h (map r (take k xs)) (map r (x ∷ []))))
+    ∙ ap (λ zs. first ++ filter_map h zs) (sym (map-append r (take k xs) (x ∷ [])))
+    ∙ ap (λ y. first ++ filter_map h (map r (take k xs ++ y ∷ []))) is
+    ∙ ap (λ ys. first ++ filter_map h (map r ys)) (sym (take_more xs k x l))
 
-pub numbered_push : (names : List Text) (rows : List ImportRow) (k : ℕ) (row : ImportRow) (old new : List DirectImport) (m : ℕ) → k < length rows → row ≡ get_or rows k row → position (bytes_eq row.module) names ≡ Some m → old ≡ filter_map (direct_import names) (take k rows) → new ≡ old ++ at row.line m ∷ [] → new ≡ filter_map (direct_import names) (take (k + 1) rows)
-numbered_push names rows k row old new m l is number before e = numbered_next names rows k row old new (Some m) l is number before e
+-- ---- a row, statement by statement
 
-pub numbered_skip : (names : List Text) (rows : List ImportRow) (k : ℕ) (row : ImportRow) (old : List DirectImport) → k < length rows → row ≡ get_or rows k row → position (bytes_eq row.module) names ≡ None → old ≡ filter_map (direct_import names) (take k rows) → old ≡ filter_map (direct_import names) (take (k + 1) rows)
-numbered_skip names rows k row old l is number before = numbered_next names rows k row old old None l is number before (sym (append-nil old))
+-- the imports of these statements that name one of these modules
+abbrev pub direct_in : List Text → List Stmt → List DirectImport
+direct_in names ss = filter_map (direct_import names) (flat_map rows_of (map statement_of ss))
+
+direct_in-append : (names : List Text) (xs ys : List Stmt) → direct_in names (xs ++ ys) ≡ direct_in names xs ++ direct_in names ys
+direct_in-append names xs ys =
+    ap (λ ss. filter_map (direct_import names) (flat_map rows_of ss)) (map-append statement_of xs ys)
+    ∙ ap (filter_map (direct_import names)) (flat_map-append rows_of (map statement_of xs) (map statement_of ys))
+    ∙ filter_map-append (direct_import names) (flat_map rows_of (map statement_of xs)) (flat_map rows_of (map statement_of ys))
+
+pub direct_turn : (names : List Text) (ss : List Stmt) (k : ℕ) (s : Stmt) (old new : List DirectImport) → k < length ss → s ≡ get_or ss k s → new ≡ old ++ filter_map (direct_import names) (rows_of (statement_of s))
+    → old ≡ direct_in names (take k ss) → new ≡ direct_in names (take (k + 1) ss)
+direct_turn names ss k s old new l is e before =
+    e ∙ ap (λ ds. ds ++ filter_map (direct_import names) (rows_of (statement_of s))) before
+    ∙ ap (λ rows. direct_in names (take k ss) ++ filter_map (direct_import names) rows) (sym (append-nil (rows_of (statement_of s))))
+    ∙ sym (direct_in-append names (take k ss) (s ∷ []))
+    ∙ ap (λ y. direct_in names (take k ss ++ y ∷ [])) is
+    ∙ ap (direct_in names) (sym (take_more ss k s l))
 
 -- ---- sources, one by one
 

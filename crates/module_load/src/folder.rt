@@ -1,17 +1,21 @@
-ghost use Rattle.std.specs.Prelude.{◌≡◌, ◌≤◌, ◌<◌, IfOk, length, map};
-ghost use Rattle.std.specs.List.{filter_map, position};
+ghost use Rattle.std.specs.Prelude.{◌≡◌, ◌≤◌, ◌<◌, ◌++◌, [], IfOk, OnOk, length, map};
+ghost use Rattle.std.specs.List.{cons_option, filter_map, position};
 ghost use Rattle.std.specs.Str.{bytes_eq};
 ghost use Rattle.module_load.specs.EveryFolder.{EveryFolder};
+ghost use Rattle.py_tree.specs.Joined.{module_of, statement_of};
+ghost use Rattle.py_tree.specs.declared.statement.Import.{Import as Imported};
+ghost use Rattle.import_graph.specs.Imports.{import_rows, rows_of};
 ghost use Rattle.module_load.specs.Folders.{AreSources, IsSources, OneFolder, direct_import, direct_imports, file_of, graph_of, names_of};
 ghost use Rattle.module_load.specs.NamePlaces.{AreNumbersOf};
 ghost use Rattle.module_load.specs.Sources.{state_of};
 
+use crate::import_faults::top_imports;
 use crate::preparing::prepare;
 use crate::source::{Source, SourceState};
 use import_graph::graph::{Graph, build_graph};
-use import_graph::imports::{ImportRow, imports_of};
 use import_graph::rows::{DirectImport, GraphRow};
 use lists::Items;
+use py_tree::statement::{Import, Module, Stmt, StmtKind};
 use py_tree::text::Text;
 use registry_core::sources::Sources;
 use std::alloc::{AllocError, Global};
@@ -93,35 +97,83 @@ fn direct_imports(
     ensures { IfOk result (λ row. row ≡ direct_imports (names_of list.now) (state_of source.now.state)) }
 {
     match &source.state {
-        SourceState::Tree(tree) => {
-            let rows = imports_of(alloc, tree)?;
-            numbered(alloc, list, numbers, rows.as_slice())
-        }
+        SourceState::Tree(tree) => tree_imports(alloc, list, numbers, tree),
         _ => Ok(Items::new(alloc)),
     }
 }
 
-/// The imports that name one of these modules, by its number.
-fn numbered(
+/// The imports of a module's top part that name one of these modules.
+fn tree_imports(
     alloc: Global,
     list: &[Source],
     numbers: &NameMap<'_, usize>,
-    rows: &[ImportRow],
+    tree: &Module,
 ) -> Result<GraphRow, AllocError>
     requires few { length list.now ≤ 4294967295 }
     requires numbers { AreNumbersOf numbers.now (names_of list.now) }
-    ensures { IfOk result (λ row. row ≡ filter_map (direct_import (names_of list.now)) rows.now) }
+    ensures { IfOk result (λ row. row ≡ filter_map (direct_import (names_of list.now)) (import_rows (module_of tree.now))) }
 {
     let mut direct = Items::new(alloc);
-    for row in rows {
-        if let Some(number) = number_of(list, numbers, &row.module) {
-            direct.push(DirectImport {
-                line: row.line,
-                module: number,
-            })?;
-        }
+    for statement in top_imports(tree.body.as_slice()) {
+        put_statement(list, numbers, statement, &mut direct)?;
     }
     Ok(direct)
+}
+
+/// Puts those that a statement names.
+fn put_statement(
+    list: &[Source],
+    numbers: &NameMap<'_, usize>,
+    statement: &Stmt,
+    direct: &mut GraphRow,
+) -> Result<(), AllocError>
+    requires few { length list.now ≤ 4294967295 }
+    requires numbers { AreNumbersOf numbers.now (names_of list.now) }
+    ensures { OnOk result (direct.new ≡ direct.old ++ filter_map (direct_import (names_of list.now)) (rows_of (statement_of statement.now))) }
+{
+    match &statement.kind {
+        StmtKind::Import(names) => {
+            put_each(list, numbers, statement.line, names.as_slice(), direct)
+        }
+        StmtKind::From { module, .. } => put_named(list, numbers, statement.line, module, direct),
+        _ => Ok(()),
+    }
+}
+
+/// Puts those that an `import` on that line names.
+fn put_each(
+    list: &[Source],
+    numbers: &NameMap<'_, usize>,
+    line: u32,
+    names: &[Import],
+    direct: &mut GraphRow,
+) -> Result<(), AllocError>
+    requires few { length list.now ≤ 4294967295 }
+    requires numbers { AreNumbersOf numbers.now (names_of list.now) }
+    ensures { OnOk result (direct.new ≡ direct.old ++ filter_map (direct_import (names_of list.now)) (map (λ (i : Imported). record { line = line; «module» = i.name; names = [] }) names.now)) }
+{
+    for import in names {
+        put_named(list, numbers, line, &import.name, direct)?;
+    }
+    Ok(())
+}
+
+/// Puts the module of that name, where it is one of these.
+fn put_named(
+    list: &[Source],
+    numbers: &NameMap<'_, usize>,
+    line: u32,
+    name: &Text,
+    direct: &mut GraphRow,
+) -> Result<(), AllocError>
+    requires few { length list.now ≤ 4294967295 }
+    requires numbers { AreNumbersOf numbers.now (names_of list.now) }
+    ensures { OnOk result (direct.new ≡ direct.old ++ cons_option (direct_import (names_of list.now) (record { line = line; «module» = name.now; names = [] })) []) }
+{
+    if let Some(module) = number_of(list, numbers, name) {
+        direct.push(DirectImport { line, module })?;
+    }
+    Ok(())
 }
 
 /// The number of the first of these modules that has the name.
