@@ -1,9 +1,10 @@
-ghost use Rattle.std.specs.Prelude.{◌≡◌, IfOk};
+ghost use Rattle.std.specs.Prelude.{◌≡◌, ◌<◌, IfOk};
+ghost use Rattle.import_graph.specs.Closure.{count};
 
 use import_graph::graph::{Graph, build_graph, is_graph};
 use import_graph::rows::{DirectImport, GraphRow, GraphRows};
 use lists::Items;
-use std::alloc::{AllocError, Global};
+use std::alloc::{AllocError, AllocGlobal, Global};
 use std::process::Abort;
 use std::test::Fail;
 
@@ -82,6 +83,17 @@ fn graph_of(rt: &impl Abort, alloc: Global, rows: &GraphRows) -> Result<Graph, A
     build_graph(alloc, rows)
 }
 
+/// Compares what the graph tells of a module.
+fn assert_told(rt: &(impl Abort + AllocGlobal), graph: &Graph, module: u32, case: &Case)
+    requires { «module» < count graph.now }
+{
+    assert_eq!(rt; graph.row(module).len(), case.row.len(), "{module}");
+    assert_eq!(rt; graph.direct(module), case.direct, "{module}");
+    assert_eq!(rt; graph.reached(module), case.reached, "{module}");
+    assert_eq!(rt; graph.need(module), case.need, "{module}");
+    assert_eq!(rt; graph.cyclic(module), case.cyclic, "{module}");
+}
+
 #[test]
 fn a_chain_leads_into_a_cycle(rt: HostRuntime) -> Result<(), Fail> {
     let alloc = rt.alloc();
@@ -89,12 +101,7 @@ fn a_chain_leads_into_a_cycle(rt: HostRuntime) -> Result<(), Fail> {
     share(&graph);
     assert!(rt; graph.count() as usize == CASES.len());
     for module in 0..graph.count() {
-        let case = &CASES[module as usize];
-        assert_eq!(rt; graph.row(module).len(), case.row.len(), "{module}");
-        assert_eq!(rt; graph.direct(module), case.direct, "{module}");
-        assert_eq!(rt; graph.reached(module), case.reached, "{module}");
-        assert_eq!(rt; graph.need(module), case.need, "{module}");
-        assert_eq!(rt; graph.cyclic(module), case.cyclic, "{module}");
+        assert_told(&rt, &graph, module, &CASES[module as usize]);
     }
     Ok(())
 }

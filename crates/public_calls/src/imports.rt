@@ -1,9 +1,10 @@
-use import_graph::imports::imports_of;
+use import_graph::imports::{ImportRows, imports_of};
 use lists::{ElementAt, Items};
 use py_tree::expression::Expr;
 use py_tree::statement::{Import, Module, Stmt, StmtKind};
 use py_tree::text::Text;
-use std::alloc::{AllocError, Global};
+use std::alloc::{AllocError, AllocGlobal, Global};
+use std::process::Abort;
 use std::test::Fail;
 
 fn import(alloc: Global, name: &str, alias: Option<&str>) -> Result<Import, AllocError> {
@@ -49,10 +50,12 @@ fn sample(alloc: Global) -> Result<Module, AllocError> {
     Ok(Module { body })
 }
 
-#[test]
-fn lists_the_modules_that_the_top_part_names(rt: HostRuntime) -> Result<(), Fail> {
-    let alloc = rt.alloc();
-    let rows = imports_of(alloc, &sample(alloc)?)?;
+/// Compares the rows of the sample.
+fn assert_rows(
+    rt: &(impl Abort + AllocGlobal),
+    alloc: Global,
+    rows: &ImportRows,
+) -> Result<(), AllocError> {
     assert_eq!(rt; rows.len(), 4);
     for (row, (line, module)) in rows.as_slice().iter().zip([
         (2, "__strict__"),
@@ -71,5 +74,13 @@ fn lists_the_modules_that_the_top_part_names(rt: HostRuntime) -> Result<(), Fail
     assert_eq!(rt; names.len(), 2);
     assert!(rt; names.at(0).same(&Text::from_str(alloc, "ITEMS")?));
     assert!(rt; names.at(1).same(&Text::from_str(alloc, "total")?));
+    Ok(())
+}
+
+#[test]
+fn lists_the_modules_that_the_top_part_names(rt: HostRuntime) -> Result<(), Fail> {
+    let alloc = rt.alloc();
+    let rows = imports_of(alloc, &sample(alloc)?)?;
+    assert_rows(&rt, alloc, &rows)?;
     Ok(())
 }

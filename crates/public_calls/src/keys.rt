@@ -28,24 +28,47 @@ fn an_equal_key_keeps_its_first_form_and_its_place(rt: HostRuntime) -> Result<()
 }
 
 #[test]
-fn keys_are_found_by_what_they_hold(rt: HostRuntime) -> Result<(), Fail> {
+fn keys_of_each_kind_are_apart(rt: HostRuntime) -> Result<(), Fail> {
     let alloc = rt.alloc();
+    let key = text(alloc, &['0'])?;
+    let same = text(alloc, &['0'])?;
     let mut map = KeyMap::new(alloc);
     map.put(Key::Nil, 0, 0)?;
     map.put(Key::Int(0), 1, 1)?;
-    map.put(text(alloc, &['0'])?, 2, 2)?;
-    map.put(text(alloc, &[])?, 3, 3)?;
-    map.put(Key::Tuple(Keys::new(alloc)), 4, 4)?;
-    map.put(pair(alloc, Key::Int(0), text(alloc, &['0'])?)?, 5, 5)?;
-    map.put(pair(alloc, text(alloc, &['0'])?, Key::Int(0))?, 6, 6)?;
-    assert_eq!(rt; map.len(), 7);
+    map.put(key, 2, 2)?;
+    map.put(Key::Tuple(Keys::new(alloc)), 3, 3)?;
+    assert_eq!(rt; map.len(), 4);
     assert_eq!(rt; map.find(&Key::Nil), Some(&0));
-    assert_eq!(rt; map.find(&text(alloc, &['0'])?), Some(&2));
-    assert_eq!(rt; map.find(&Key::Tuple(Keys::new(alloc))), Some(&4));
-    let key = pair(alloc, Key::Int(0), text(alloc, &['0'])?)?;
-    assert_eq!(rt; map.find(&key), Some(&5));
-    assert_eq!(rt; map.find(&pair(alloc, Key::Int(0), Key::Int(0))?), None);
+    assert_eq!(rt; map.find(&same), Some(&2));
     assert_eq!(rt; map.find(&Key::Int(1)), None);
+    Ok(())
+}
+
+#[test]
+fn an_empty_text_is_no_empty_tuple(rt: HostRuntime) -> Result<(), Fail> {
+    let alloc = rt.alloc();
+    let key = text(alloc, &[])?;
+    let empty = Key::Tuple(Keys::new(alloc));
+    let mut map = KeyMap::new(alloc);
+    map.put(key, 0, 0)?;
+    assert_eq!(rt; map.find(&empty), None);
+    map.put(Key::Tuple(Keys::new(alloc)), 1, 1)?;
+    assert_eq!(rt; map.find(&empty), Some(&1));
+    Ok(())
+}
+
+#[test]
+fn a_tuple_is_found_by_its_items_in_their_order(rt: HostRuntime) -> Result<(), Fail> {
+    let alloc = rt.alloc();
+    let key = pair(alloc, Key::Int(0), Key::Nil)?;
+    let same = pair(alloc, Key::Int(0), Key::Nil)?;
+    let turned = pair(alloc, Key::Nil, Key::Int(0))?;
+    let mut map = KeyMap::new(alloc);
+    map.put(key, 0, 0)?;
+    assert_eq!(rt; map.find(&same), Some(&0));
+    assert_eq!(rt; map.find(&turned), None);
+    map.put(turned, 1, 1)?;
+    assert_eq!(rt; map.len(), 2);
     Ok(())
 }
 

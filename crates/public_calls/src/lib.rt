@@ -1,8 +1,10 @@
-//! Each public call of the layers once on its happy path, with its answer compared. It has tests alone, so that each layer is proved once.
+//! Public calls of the layers on their happy paths, with their answers compared. It has tests alone, so that each layer is proved once.
 #![tactic(auto)]
 
 #[cfg(test)]
 mod atoms;
+#[cfg(test)]
+mod classes;
 #[cfg(test)]
 mod disk_folder;
 #[cfg(test)]
@@ -20,13 +22,19 @@ mod keys;
 #[cfg(test)]
 mod lexer;
 #[cfg(test)]
+mod operators;
+#[cfg(test)]
 mod phrases;
+#[cfg(test)]
+mod registry;
 #[cfg(test)]
 mod run;
 #[cfg(test)]
 mod segment;
 #[cfg(test)]
 mod sinks;
+#[cfg(test)]
+mod texts;
 #[cfg(test)]
 mod trees;
 #[cfg(test)]

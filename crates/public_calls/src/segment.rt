@@ -10,32 +10,42 @@ use py_tree::expression::Texts;
 use py_tree::text::Text;
 use py_values::class_id::ClassId;
 use py_values::exception::ExcKind;
-use py_values::value::{Home, Value};
+use py_values::value::{Home, Ref, Value};
 use std::test::Fail;
 
 const HOME: Home = Home::Module(2);
 
 #[test]
-fn made_objects_hold_what_they_were_made_of(rt: HostRuntime) -> Result<(), Fail> {
+fn a_list_and_a_tuple_hold_their_items(rt: HostRuntime) -> Result<(), Fail> {
     let mut segment = Segment::new(rt.alloc(), HOME);
     segment.make_list(&[Value::Int(1), Value::Nil])?;
     segment.make_tuple(&[Value::Int(2)])?;
-    segment.make_text(&['a', 'b'])?;
-    segment.make_dict()?;
-    segment.make_range(0, 3, -1)?;
-    segment.make_bound(Value::Nil, Value::Bool(true))?;
-    segment.make_instance(ClassId::Exc(ExcKind::KeyError), &[None])?;
     assert!(rt; items(segment.get(0)) == [Value::Int(1), Value::Nil].as_slice());
     assert!(rt;
         matches!(segment.get(1), Object::Tuple(items) if items.as_slice() == [Value::Int(2)].as_slice())
     );
+    Ok(())
+}
+
+#[test]
+fn a_text_holds_its_code_points_and_a_new_dict_nothing(rt: HostRuntime) -> Result<(), Fail> {
+    let mut segment = Segment::new(rt.alloc(), HOME);
+    segment.make_text(&['a', 'b'])?;
+    segment.make_dict()?;
     assert!(rt;
-        matches!(segment.get(2), Object::Text(text) if text.as_slice() == ['a', 'b'].as_slice())
+        matches!(segment.get(0), Object::Text(text) if text.as_slice() == ['a', 'b'].as_slice())
     );
-    assert!(rt; matches!(segment.get(3), Object::Dict(entries) if entries.len() == 0));
+    assert!(rt; matches!(segment.get(1), Object::Dict(entries) if entries.len() == 0));
+    Ok(())
+}
+
+#[test]
+fn a_range_holds_its_three_ints(rt: HostRuntime) -> Result<(), Fail> {
+    let mut segment = Segment::new(rt.alloc(), HOME);
+    segment.make_range(0, 3, -1)?;
     assert!(rt;
         matches!(
-            segment.get(4),
+            segment.get(0),
             Object::Range {
                 start: 0,
                 stop: 3,
@@ -43,18 +53,47 @@ fn made_objects_hold_what_they_were_made_of(rt: HostRuntime) -> Result<(), Fail>
             }
         )
     );
+    Ok(())
+}
+
+#[test]
+fn a_bound_method_holds_its_receiver(rt: HostRuntime) -> Result<(), Fail> {
+    let mut segment = Segment::new(rt.alloc(), HOME);
+    segment.make_bound(Value::Nil, Value::Bool(true))?;
     assert!(rt;
         matches!(
-            segment.get(5),
+            segment.get(0),
             Object::Bound {
                 receiver: Value::Nil,
                 method: Value::Bool(true)
             }
         )
     );
+    Ok(())
+}
+
+#[test]
+fn an_instance_holds_its_class_and_its_slots(rt: HostRuntime) -> Result<(), Fail> {
+    let mut segment = Segment::new(rt.alloc(), HOME);
+    segment.make_instance(ClassId::Exc(ExcKind::KeyError), &[None])?;
     assert!(rt;
-        matches!(segment.get(6), Object::Instance { class: ClassId::Exc(ExcKind::KeyError), slots } if slots.as_slice() == [None].as_slice())
+        matches!(segment.get(0), Object::Instance { class: ClassId::Exc(ExcKind::KeyError), slots } if slots.as_slice() == [None].as_slice())
     );
+    Ok(())
+}
+
+#[test]
+fn a_made_object_is_told_by_its_home_and_place(rt: HostRuntime) -> Result<(), Fail> {
+    let mut segment = Segment::new(rt.alloc(), HOME);
+    segment.make_dict()?;
+    let made = segment.make_dict()?;
+    let place = Ref {
+        home: HOME,
+        place: 1,
+    };
+    assert_eq!(rt; made, place);
+    assert_eq!(rt; segment.home(), HOME);
+    assert_eq!(rt; segment.len(), 2);
     Ok(())
 }
 
@@ -122,6 +161,21 @@ fn globals_are_taken_out(rt: HostRuntime) -> Result<(), Fail> {
     assert_eq!(rt; globals.at(1).value, Some(Value::Int(7)));
     assert!(rt; globals.at(1).name.same(&Text::from_str(alloc, "y")?));
     assert_eq!(rt; segment.take_globals().len(), 0);
+    Ok(())
+}
+
+#[test]
+fn a_global_is_bound_and_unbound(rt: HostRuntime) -> Result<(), Fail> {
+    let alloc = rt.alloc();
+    let mut segment = Segment::new(alloc, Home::Run);
+    let mut names = Texts::new(alloc);
+    names.push(Text::from_str(alloc, "x")?)?;
+    segment.open_globals(&names)?;
+    assert_eq!(rt; segment.global(0), None);
+    segment.set_global(0, Value::Int(7));
+    assert_eq!(rt; segment.global(0), Some(Value::Int(7)));
+    segment.unset_global(0);
+    assert_eq!(rt; segment.global(0), None);
     Ok(())
 }
 
