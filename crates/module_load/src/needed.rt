@@ -42,6 +42,24 @@ impl<'a, 'n> Known for Needed<'a, 'n> {
     }
 }
 
+/// What is decided of the modules that a module needs, where it needs none.
+#[derive(Clone, Copy)]
+pub(crate) struct NoneNeeded<'a> {
+    pub(crate) all: &'a Sources<Source>,
+}
+
+impl<'a> Known for NoneNeeded<'a> {
+    ghost use Rattle.std.specs.Prelude.{[]};
+    ghost use Rattle.module_load.specs.Folders.{names_of};
+    ghost use Rattle.module_load.specs.Right.{known_in};
+
+    ghost decisions = { λ needed. known_in (names_of needed.all.now.list) [] };
+
+    fn verdict(&self, _name: &Text) -> Option<&Verdict> {
+        None
+    }
+}
+
 /// The verdicts by the numbers of their modules, where there are so many.
 pub(crate) fn by_number(
     alloc: Global,

@@ -11,7 +11,7 @@ ghost use Rattle.module_load.specs.declared.verdict.Verdict.{Verdict as Decision
 
 use crate::deciding::decide;
 use crate::folder::numbers_of;
-use crate::needed::{Needed, by_number};
+use crate::needed::{Needed, NoneNeeded, by_number};
 use crate::source::{Source, SourceState};
 use crate::verdict::Verdict;
 use lists::{ElementAt, Items};
@@ -85,6 +85,9 @@ fn load_tree(
     requires within { (k : ℕ) (row : Row Decision) → slice_get imports.now.rows k ≡ Some row → row.module < count all.now.graph }
     ensures { IfOk result (λ verdict. (decision : Decision) → IsRight (known_in (names_of all.now.list) (rows_of imports.now.rows)) name.now «module» (module_of tree.now) decision → decision ≡ verdict) }
 {
+    if imports.as_slice().is_empty() {
+        return decide(alloc, tree, name, module, &NoneNeeded { all });
+    }
     let numbers = numbers_of(alloc, all.list.as_slice())?;
     let table = by_number(alloc, imports, all.graph.count())?;
     let needed = Needed {

@@ -13,6 +13,6 @@ invariant_of-needed c =
     let all = c.args.all.now in
     let rows = c.args.imports.now.rows in
     record {
-      named = λ name. c.in_ok-numbers.ensures name ∙ ap (λ (list : List Source). position (bytes_eq name) (names_of list)) c.as_slice.ensures;
-      numbered = subst (λ (n : ℕ). IsTableOf n rows c.as_slice-2.result.now) (c.count.ensures ∙ sym all.each) (subst (λ (table : List (Option (Bor Verdict))). IsTableOf c.count.result rows table) (sym c.as_slice-2.ensures.value) c.in_ok-table.ensures);
+      named = λ name. c.in_ok-numbers.ensures name ∙ ap (λ (list : List Source). position (bytes_eq name) (names_of list)) c.as_slice-2.ensures;
+      numbered = subst (λ (n : ℕ). IsTableOf n rows c.as_slice-3.result.now) (c.count.ensures ∙ sym all.each) (subst (λ (table : List (Option (Bor Verdict))). IsTableOf c.count.result rows table) (sym c.as_slice-3.ensures.value) c.in_ok-table.ensures);
     }
