@@ -1,0 +1,4 @@
+pub mod Acts
+pub mod Modules
+pub mod Classes
+pub mod Looks
