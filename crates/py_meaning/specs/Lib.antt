@@ -6,3 +6,8 @@ pub mod Operands
 pub mod PaidKeys
 pub mod Comparisons
 pub mod TextForms
+pub mod Boundaries
+pub mod Names
+pub mod Attributes
+pub mod Subscripts
+pub mod Iterables
