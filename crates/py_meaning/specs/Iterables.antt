@@ -1,5 +1,5 @@
 -- Going over iterables: lists, tuples, texts, ranges and dictionaries.
-use Rattle.std.specs.Prelude.{ℕ, zero, suc, nat_lt, ◌==◌, if◌then◌else◌, List, [], ◌∷◌, map, length, slice_get, Option, Some, None}
+use Rattle.std.specs.Prelude.{ℕ, zero, suc, nat_lt, ◌==◌, Bool, if◌then◌else◌, List, [], ◌∷◌, map, length, slice_get, Option, Some, None}
 use Rattle.std.specs.List.{range_with_len}
 use Rattle.py_tree.specs.Syntax.{Text}
 use Rattle.py_values.specs.declared.exception.ExcKind.TheVariants as kind
@@ -43,22 +43,23 @@ again Continued next = next
 again Broke next = give On
 again (Returned value) next = give (Returned value)
 
--- a turn over the next item, where there is one
-abbrev pub turn : (Value → Act Flow) → Act Flow → Option Value → Act Flow
-turn body next None = give On
-turn body next (Some x) = do
+-- a turn over the next item, where there is one; behind it the loop is under way again, which is what `back` tells
+abbrev pub turn : Act (Unit {0}) → (Value → Act Flow) → Act Flow → Option Value → Act Flow
+turn back body next None = give On
+turn back body next (Some x) = do
   tick
   ended ← body x
+  back
   again ended next
 
-abbrev pub over_each : (Value → Act Flow) → List Value → Act Flow
-over_each body [] = give On
-over_each body (x ∷ xs) = turn body (over_each body xs) (Some x)
+abbrev pub over_each : Act (Unit {0}) → (Value → Act Flow) → List Value → Act Flow
+over_each back body [] = give On
+over_each back body (x ∷ xs) = turn back body (over_each back body xs) (Some x)
 
 -- with at most so many turns; each costs 1, so that the fuel ends before them
-abbrev pub over_range : (Value → Act Flow) → (ℕ → Option Value) → ℕ → ℕ → Act Flow
-over_range body item zero i = halt Spent
-over_range body item (suc turns) i = turn body (over_range body item turns (suc i)) (item i)
+abbrev pub over_range : Act (Unit {0}) → (Value → Act Flow) → (ℕ → Option Value) → ℕ → ℕ → Act Flow
+over_range back body item zero i = halt Spent
+over_range back body item (suc turns) i = turn back body (over_range back body item turns (suc i)) (item i)
 
 abbrev pub number_at : ℕ → (ℕ → Value) → ℕ → Option Value
 number_at count number i = if nat_lt i count then Some (number i) else None
@@ -68,25 +69,33 @@ listed_at i (seen.Listed h n vs) = slice_get vs i
 listed_at i other = None
 
 -- by place, so that items appended on the way are seen
-abbrev pub over_list : World → Home → ℕ → (Value → Act Flow) → ℕ → ℕ → Act Flow
-over_list w h n body zero i = halt Spent
-over_list w h n body (suc turns) i = do
+abbrev pub over_list : World → Home → ℕ → Act (Unit {0}) → (Value → Act Flow) → ℕ → ℕ → Act Flow
+over_list w h n back body zero i = halt Spent
+over_list w h n back body (suc turns) i = do
   a ← see_object w h n
-  turn body (over_list w h n body turns (suc i)) (listed_at i a)
+  turn back body (over_list w h n back body turns (suc i)) (listed_at i a)
 
 -- a dictionary of another size than at the start raises RuntimeError at the next step, also at the one that would end
 abbrev pub unless_resized : World → ℕ → Act Flow → Seen → Act Flow
 unless_resized w size next (seen.Mapped h n es) = choose (length es == size) next (raise w kind.RuntimeError)
 unless_resized w size next other = next
 
-abbrev pub over_dict : World → Home → ℕ → ℕ → (Value → Act Flow) → List Value → Act Flow
-over_dict w h n size body [] = see_object w h n >>= unless_resized w size (give On)
-over_dict w h n size body (key ∷ keys) = see_object w h n >>= unless_resized w size (turn body (over_dict w h n size body keys) (Some key))
+abbrev pub over_dict : World → Home → ℕ → ℕ → Act (Unit {0}) → (Value → Act Flow) → List Value → Act Flow
+over_dict w h n size back body [] = see_object w h n >>= unless_resized w size (give On)
+over_dict w h n size back body (key ∷ keys) = see_object w h n >>= unless_resized w size (turn back body (over_dict w h n size back body keys) (Some key))
 
-abbrev pub over : World → Seen → (Value → Act Flow) → Act Flow
-over w (seen.Tuple vs) body = over_each body vs
-over w (seen.Points text) body = over_each body (characters text)
-over w (seen.Listed h n vs) body = λ s. over_list w h n body (suc s.fuel) 0 s
-over w (seen.Range start stop step) body = λ s. over_range body (number_at (range_count start stop step) (λ i. v.Int (range_item start step i))) (suc s.fuel) 0 s
-over w (seen.Mapped h n es) body = over_dict w h n (length es) body (shown_keys es)
-over w other body = type_error w
+abbrev pub over : World → Act (Unit {0}) → (Value → Act Flow) → Seen → Act Flow
+over w back body (seen.Tuple vs) = over_each back body vs
+over w back body (seen.Points text) = over_each back body (characters text)
+over w back body (seen.Listed h n vs) = λ s. over_list w h n back body (suc s.fuel) 0 s
+over w back body (seen.Range start stop step) =
+    λ s. over_range back body (number_at (range_count start stop step) (λ i. v.Int (range_item start step i))) (suc s.fuel) 0 s
+over w back body (seen.Mapped h n es) = over_dict w h n (length es) back body (shown_keys es)
+over w back body other = type_error w
+
+-- with at most so many turns; each costs 1, so that the fuel ends before them
+abbrev pub while_true : Act (Unit {0}) → Act Bool → Act Flow → ℕ → Act Flow
+while_true back test body zero = halt Spent
+while_true back test body (suc turns) = do
+  goes_on ← test
+  choose goes_on (turn back (λ x. body) (while_true back test body turns) (Some v.Nil)) (give On)

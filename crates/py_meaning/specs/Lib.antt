@@ -11,3 +11,5 @@ pub mod Names
 pub mod Attributes
 pub mod Subscripts
 pub mod Iterables
+pub mod Arguments
+pub mod Calls
