@@ -13,3 +13,6 @@ pub mod Subscripts
 pub mod Iterables
 pub mod Arguments
 pub mod Calls
+pub mod Builtins
+pub mod Methods
+pub mod Expressions
