@@ -16,3 +16,8 @@ pub mod Calls
 pub mod Builtins
 pub mod Methods
 pub mod Expressions
+pub mod Targets
+pub mod Exceptions
+pub mod Definitions
+pub mod Imports
+pub mod Statements
