@@ -21,3 +21,6 @@ pub mod Exceptions
 pub mod Definitions
 pub mod Imports
 pub mod Statements
+pub mod Modes
+pub mod Runs
+pub mod ModuleFacts
