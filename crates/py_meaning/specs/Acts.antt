@@ -1,12 +1,11 @@
 -- Actions on a state: what they give, and what ends an evaluation before its value.
-use Rattle.std.specs.Prelude.{ℕ, ◌+◌, ◌-◌, nat_le, Bool, true, false, if◌then◌else◌}
+use Rattle.std.specs.Prelude.{ℕ, ◌-◌, nat_le, Bool, true, false, if◌then◌else◌}
 use Rattle.py_tree.specs.declared.code.Code.{Code}
 use Rattle.gradual_types.specs.Values.{Value}
 use Rattle.gradual_types.specs.States.{State}
 
 infixl 1 ◌>>=◌
 infixl 1 ◌>>◌
-
 -- what ends an evaluation before its value
 pub data Halt : Type 0 where
   Raised : Value → Halt  -- an exception, which a `try` may take

@@ -1,5 +1,5 @@
 -- What builtin functions and types give. Arguments that don't bind are not examined.
-use Rattle.std.specs.Prelude.{ℕ, ℤ, zero, pos, Bool, true, false, if◌then◌else◌, List, [], ◌∷◌, length, codes, Option, Some, None}
+use Rattle.std.specs.Prelude.{ℕ, ℤ, pos, Bool, true, false, List, [], ◌∷◌, length, codes, Option, Some, None}
 use Rattle.std.specs.Ordering.{int_eq}
 use Rattle.py_tree.specs.Syntax.{Text}
 use Rattle.py_tree.specs.declared.operator.CompareOp.{CompareOp}

@@ -1,10 +1,10 @@
 -- `==`, order and `in`. Walks into containers go at most 100 deep.
-use Rattle.std.specs.Prelude.{ℕ, zero, suc, ℤ, Bool, true, false, not, ◌&&◌, ◌||◌, ◌==◌, if◌then◌else◌, List, [], ◌∷◌, length, Option, Some, None, is_some}
+use Rattle.std.specs.Prelude.{ℕ, zero, suc, ℤ, Bool, true, false, not, ◌&&◌, ◌==◌, if◌then◌else◌, List, [], ◌∷◌, length, Option, Some, None, is_some}
 use Rattle.std.specs.List.{list_any, range_with_len}
 use Rattle.std.specs.Ordering.{int_eq, nat_cmp}
 use Rattle.std.specs.Str.{bytes_eq}
 use Rattle.py_tree.specs.declared.operator.CompareOp.{CompareOp}
-use Rattle.py_tree.specs.declared.operator.CompareOp.TheVariants.{Eq, Ne, Lt, Le, Gt, Ge, In, NotIn}
+use Rattle.py_tree.specs.declared.operator.CompareOp.TheVariants.{Eq, Ne, In, NotIn}
 use Rattle.py_values.specs.Builtins.{name_of}
 use Rattle.py_values.specs.declared.builtin.Builtin.{Builtin}
 use Rattle.py_values.specs.declared.builtin.Builtin.TheVariants.{DictCopy}

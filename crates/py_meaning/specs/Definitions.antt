@@ -11,7 +11,7 @@ use Rattle.gradual_types.specs.Values as v
 use Rattle.gradual_types.specs.Values.{Value}
 use Rattle.gradual_types.specs.States.{with_default}
 use Rattle.py_meaning.specs.Acts.{Act, Gives, ◌>>=◌, ◌>>◌, give, done, tick}
-use Rattle.py_meaning.specs.Modules.{World, Setting, ModuleText, FunctionIn, KnownFunction, functions, function_of, text_of, written_name}
+use Rattle.py_meaning.specs.Modules.{Setting, ModuleText, FunctionIn, KnownFunction, functions, function_of, text_of, written_name}
 use Rattle.py_meaning.specs.Boundaries.{pass, origin_of}
 use Rattle.py_meaning.specs.Names.{set_name}
 use Rattle.py_meaning.specs.Calls.{Oracle, type_at}

@@ -10,7 +10,7 @@ use Rattle.py_meaning.specs.Modules.{World, Setting}
 use Rattle.py_meaning.specs.Classes.{is_below, is_exception}
 use Rattle.py_meaning.specs.Looks as seen
 use Rattle.py_meaning.specs.Looks.{Seen, look, type_error}
-use Rattle.py_meaning.specs.Names.{bind_name, set_name}
+use Rattle.py_meaning.specs.Names.{bind_name}
 use Rattle.py_meaning.specs.Calls.{Oracle, construct}
 use Rattle.py_meaning.specs.Builtins.{look_all}
 

@@ -1,5 +1,5 @@
 -- What an expression does.
-use Rattle.std.specs.Prelude.{ℕ, ℤ, pos, Bool, true, false, if◌then◌else◌, List, [], ◌∷◌, ◌++◌, length, Option, Some, None}
+use Rattle.std.specs.Prelude.{pos, true, false, if◌then◌else◌, List, [], ◌∷◌, ◌++◌, length, Option, Some, None}
 use Rattle.py_tree.specs.Syntax as x
 use Rattle.py_tree.specs.Syntax.{Text, Expression, Expressions, Pairs, Keywords}
 use Rattle.py_values.specs.declared.builtin.Builtin.{Builtin}
@@ -173,7 +173,7 @@ abbrev mutual
     index ← eval c call i
     get_item c.world object index
   eval c call (x.Call callee args keys) =
-    call_by c call (form_of c callee) (eval c call callee) (in_turn (eval_arguments c call args) (eval_keywords c call keys)) (eval_last c call args) (last_origin c args)
+      call_by c call (form_of c callee) (eval c call callee) (in_turn (eval_arguments c call args) (eval_keywords c call keys)) (eval_last c call args) (last_origin c args)
 
   pub eval_all : Setting → Oracle → Expressions → Act (List Value)
   eval_all c call x.end_of_expressions = give []

@@ -1,5 +1,5 @@
 -- Reading and binding names.
-use Rattle.std.specs.Prelude.{ℕ, Bool, false, List, [], map, codes, if◌then◌else◌, Option, Some, None}
+use Rattle.std.specs.Prelude.{ℕ, Bool, false, List, codes, if◌then◌else◌, Option, Some, None}
 use Rattle.std.specs.Str.{bytes_eq}
 use Rattle.py_tree.specs.Syntax.{Text}
 use Rattle.py_values.specs.Builtins.{builtins, named_among}

@@ -1,6 +1,5 @@
 -- Values that were looked at, as operators take them: truth, numbers, places, and the rows of the operator table.
 use Rattle.std.specs.Prelude.{ℕ, zero, suc, ℤ, pos, negsuc, ◌+ℤ◌, ◌-ℤ◌, ◌*ℤ◌, ◌++◌, nat_lt, Bool, not, List, length, Option, Some, None, slice_get}
-use Rattle.std.specs.Option.{option_and_then}
 use Rattle.py_tree.specs.declared.operator.BinaryOp.{BinaryOp}
 use Rattle.py_tree.specs.declared.operator.BinaryOp.TheVariants.{Add}
 use Rattle.py_values.specs.declared.exception.ExcKind.TheVariants as kind

@@ -1,18 +1,14 @@
 -- Whole runs: what functions do with so much fuel, the body of a module, and a call from outside.
-use Rattle.std.specs.Prelude.{ℕ, zero, suc, ◌+◌, List, [], ◌∷◌, map, length, true, Option, Some, None}
+use Rattle.std.specs.Prelude.{ℕ, zero, suc, ◌+◌, List, [], ◌∷◌, map, true, Option, Some, None}
 use Rattle.py_tree.specs.Syntax as x
 use Rattle.py_tree.specs.Syntax.{Text, Function, Statements}
-use Rattle.py_values.specs.declared.value.Home.{Home}
-use Rattle.py_values.specs.declared.value.Home.TheVariants as home
-use Rattle.heap_seg.specs.Modes.{Mode}
 use Rattle.symbols.specs.Bindings.{globals, locals}
-use Rattle.gradual_types.specs.declared.facts.Facts.{Facts}
 use Rattle.gradual_types.specs.declared.py_type.PyType.TheVariants.{Dynamic, Nil}
 use Rattle.gradual_types.specs.Values as v
 use Rattle.gradual_types.specs.Values.{Value, Content}
 use Rattle.gradual_types.specs.States.{State, Variable}
-use Rattle.py_meaning.specs.Acts.{Act, Run, Gives, Halts, Raised, Flow, On, Returned, Broke, Continued, Spent, ◌>>=◌, ◌>>◌, give, halt, pay, tick}
-use Rattle.py_meaning.specs.Modules.{World, Scope, Setting, ModuleText, Loaded, KnownFunction, function_of}
+use Rattle.py_meaning.specs.Acts.{Act, Run, Gives, Halts, Flow, Returned, Spent, ◌>>=◌, ◌>>◌, give, halt, tick}
+use Rattle.py_meaning.specs.Modules.{World, Scope, Setting, Loaded, KnownFunction, function_of}
 use Rattle.py_meaning.specs.Looks.{look, type_error}
 use Rattle.py_meaning.specs.TextForms.{repr}
 use Rattle.py_meaning.specs.Boundaries.{From, pass}
@@ -52,8 +48,8 @@ abbrev pub run_function : World → Oracle → ℕ → Option KnownFunction → 
 run_function w call m None values = type_error w
 run_function w call m (Some f) values = λ s.
     back_in s ((exec_all c call (body_of f.function) >>= result_of c) (record s { locals = opened_locals (locals f.function) values; depth = s.depth + 1 })) where
-  c : Setting
-  c = record { world = w; scope = function_scope m f }
+      c : Setting
+      c = record { world = w; scope = function_scope m f }
 
 -- what the functions do, with calls at most so deep; each costs 1, so that the fuel ends before them
 abbrev pub meaning : World → ℕ → Oracle

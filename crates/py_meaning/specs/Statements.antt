@@ -1,5 +1,5 @@
 -- What a statement does.
-use Rattle.std.specs.Prelude.{ℕ, suc, Bool, Option, Some, None}
+use Rattle.std.specs.Prelude.{ℕ, suc, Some, None}
 use Rattle.py_tree.specs.Syntax as x
 use Rattle.py_tree.specs.Syntax.{Expression, Kind, Statements, Branches, Clauses}
 use Rattle.gradual_types.specs.declared.py_type.PyType.TheVariants.{Dynamic, Nil}

@@ -1,5 +1,5 @@
 -- Subscripts.
-use Rattle.std.specs.Prelude.{ℕ, length, slice_set}
+use Rattle.std.specs.Prelude.{length, slice_set}
 use Rattle.py_values.specs.declared.exception.ExcKind.TheVariants as kind
 use Rattle.key_map.specs.Entries.{find_entry, put_entry}
 use Rattle.atom_ops.specs.Operators.{Index}

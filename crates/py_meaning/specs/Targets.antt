@@ -1,5 +1,5 @@
 -- Assignments: `T = E`, `T: E = E` and `T OP= E`.
-use Rattle.std.specs.Prelude.{ℕ, ◌==◌, List, [], ◌∷◌, ◌++◌, length, slice_get, Option, Some, None}
+use Rattle.std.specs.Prelude.{ℕ, ◌==◌, List, ◌∷◌, length, slice_get, Option, Some, None}
 use Rattle.py_tree.specs.Syntax as x
 use Rattle.py_tree.specs.Syntax.{Text, Expression, Target}
 use Rattle.py_tree.specs.declared.operator.BinaryOp.{BinaryOp}
