@@ -24,3 +24,4 @@ pub mod Statements
 pub mod Modes
 pub mod Runs
 pub mod ModuleFacts
+pub mod Outers
