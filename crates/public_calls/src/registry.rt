@@ -39,8 +39,6 @@ impl Loads for Flags {
 
     ghost is_right = { λ loads all m list verdict. verdict ≡ slice_index_or all.list m false };
 
-    ghost is_loadable = { λ loads all. Unit {0} };
-
     ghost is_refused = { λ verdict. verdict };
 
     ghost right_data = { λ loads all m list verdict h. h };
