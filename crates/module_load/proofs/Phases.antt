@@ -32,15 +32,15 @@ pub no_lines : (bytes : List ℕ) (o : Stop) → lexing.IsSo bytes (Err o) → I
 no_lines bytes (stop.Fault f) why = by_text why
 no_lines bytes (stop.Memory error) why = tt
 
-pub no_forms : (bytes : List ℕ) (lines seen : List LogicalLine) (o : Stop) → Lexes bytes (Ok lines) → seen ≡ lines → IsFormed seen (Err o) → IsParsed bytes (Err o)
-no_forms bytes lines seen (stop.Fault f) lexed same why = by_line lexed (subst (λ ls. FirstFault ls f) same why)
-no_forms bytes lines seen (stop.Memory error) lexed same why = tt
+pub no_forms : (bytes : List ℕ) (lines : List LogicalLine) (o : Stop) → Lexes bytes (Ok lines) → IsFormed lines (Err o) → IsParsed bytes (Err o)
+no_forms bytes lines (stop.Fault f) lexed why = by_line lexed why
+no_forms bytes lines (stop.Memory error) lexed why = tt
 
-pub built : (bytes : List ℕ) (lines seen : List LogicalLine) (forms : List FormLine) (answer : Result Module Stop) → Lexes bytes (Ok lines) → seen ≡ lines → Forms seen (rows_of forms) → Right (rows_of forms) answer → IsParsed bytes answer
-built bytes lines seen forms (Ok made) lexed same formed right =
-    record { lines = lines; rows = rows_of forms; lexed = lexed; formed = subst (λ ls. Forms ls (rows_of forms)) same formed; built = right.0; shallow = right.1 }
-built bytes lines seen forms (Err (stop.Fault f)) lexed same formed right = by_block lexed (subst (λ ls. Forms ls (rows_of forms)) same formed) right
-built bytes lines seen forms (Err (stop.Memory error)) lexed same formed right = tt
+pub built : (bytes : List ℕ) (lines : List LogicalLine) (forms : List FormLine) (answer : Result Module Stop) → Lexes bytes (Ok lines) → Forms lines (rows_of forms) → Right (rows_of forms) answer → IsParsed bytes answer
+built bytes lines forms (Ok made) lexed formed right =
+    record { lines = lines; rows = rows_of forms; lexed = lexed; formed = formed; built = right.0; shallow = right.1 }
+built bytes lines forms (Err (stop.Fault f)) lexed formed right = by_block lexed formed right
+built bytes lines forms (Err (stop.Memory error)) lexed formed right = tt
 
 -- ---- and that it is lawful
 
@@ -50,9 +50,9 @@ rows_fit (a_line {l = l} {ls = ls} {rows = rows} s n d) e =
     let parts = and_parts (tokens_fit l.tokens) (lines_fit ls) e in
     ap (λ b. b && forms_fit rows) (form_fits_there s parts.0) ∙ rows_fit d parts.1
 
-pub built_lawful : (bytes : List ℕ) (lines seen : List LogicalLine) (forms : List FormLine) (answer : Result Module Stop) → Lexes bytes (Ok lines) → seen ≡ lines → Forms seen (rows_of forms) → Lawful (rows_of forms) answer → IfOk answer (λ made. lawful (module_of made) ≡ true)
-built_lawful bytes lines seen forms (Ok made) lexed same formed h = h.1 (rows_fit (subst (λ ls. Forms ls (rows_of forms)) same formed) (lexed_fit lexed))
-built_lawful bytes lines seen forms (Err o) lexed same formed h = tt
+pub built_lawful : (bytes : List ℕ) (lines : List LogicalLine) (forms : List FormLine) (answer : Result Module Stop) → Lexes bytes (Ok lines) → Forms lines (rows_of forms) → Lawful (rows_of forms) answer → IfOk answer (λ made. lawful (module_of made) ≡ true)
+built_lawful bytes lines forms (Ok made) lexed formed h = h.1 (rows_fit formed (lexed_fit lexed))
+built_lawful bytes lines forms (Err o) lexed formed h = tt
 
 -- ---- the state of bytes
 

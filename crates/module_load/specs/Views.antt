@@ -1,9 +1,10 @@
 -- No definition of the language: what the parts of `prepare` and `decide` answer.
-use Rattle.std.specs.Prelude.{ℕ, if◌then◌else◌, List, Result, Ok, Err}
+use Rattle.std.specs.Prelude.{◌≡◌, ℕ, if◌then◌else◌, List, Result, Ok, Err}
 use Rattle.py_tree.specs.Syntax.{Text, Statements}
 use Rattle.py_tree.specs.declared.fault.Stop.{Stop}
 use Rattle.py_tree.specs.declared.fault.Stop.TheVariants as stop
 use Rattle.py_lexer.specs.declared.token.LogicalLine.{LogicalLine}
+use Rattle.py_expr.specs.LineAnswers.{IsSo}
 use Rattle.py_blocks.specs.declared.form_line.FormLine.{FormLine}
 use Rattle.py_blocks.specs.Rows.{rows_of}
 use Rattle.symbols.specs.Names.{with_name}
@@ -15,6 +16,11 @@ use Rattle.module_load.specs.Decisions.{Decisions}
 use Rattle.module_load.specs.RightDecisions.{IsRight, is_module}
 use Rattle.module_load.specs.Sources.{faulty, state_of}
 use Rattle.module_load.specs.Preparing.{Forms, FirstFault, Prepares}
+
+-- the form of a line, with where the line begins
+abbrev pub IsLineFormed : LogicalLine → Result FormLine Stop → Type 0
+IsLineFormed line (Ok made) = (made.indent ≡ line.indent) × (made.line ≡ line.line) × IsSo line.tokens line.line (Ok made.form)
+IsLineFormed line (Err o) = IsSo line.tokens line.line (Err o)
 
 -- the forms of lines
 abbrev pub IsFormed : List LogicalLine → Result (List FormLine) Stop → Type 0

@@ -1,11 +1,11 @@
-ghost use Rattle.std.specs.Prelude.{◌≡◌, IfOk, chars, true};
+ghost use Rattle.std.specs.Prelude.{◌≡◌, IfOk, chars, reverse, true};
 ghost use Rattle.py_tree.specs.Joined.{module_of};
 ghost use Rattle.py_tree.specs.Lawful.{lawful};
 ghost use Rattle.py_tree.specs.declared.fault.Stop.TheVariants as stop;
 ghost use Rattle.module_load.specs.Preparing.{Prepares, fault};
 ghost use Rattle.module_load.specs.Sources.{State, lawful_state, state_of};
 ghost use Rattle.module_load.specs.Parsing.{IsParsed, OnlyParse};
-ghost use Rattle.module_load.specs.Views.{IsFormed, IsRead};
+ghost use Rattle.module_load.specs.Views.{IsFormed, IsLineFormed, IsRead};
 
 use crate::source::{Source, SourceState};
 use crate::top_part::is_marked;
@@ -14,7 +14,7 @@ use py_blocks::form_line::{FormLine, FormLines};
 use py_expr::line::line_form;
 use py_lexer::lex::lex;
 use py_lexer::marker::marker_line;
-use py_lexer::token::LogicalLine;
+use py_lexer::token::{LogicalLine, LogicalLines};
 use py_tree::code::Code;
 use py_tree::fault::{Fault, Stop};
 use py_tree::statement::Module;
@@ -83,23 +83,43 @@ pub fn parse(alloc: Global, bytes: &[u8]) -> Result<Module, Stop>
     ensures lawful { IfOk result (λ made. lawful (module_of made) ≡ true) }
 {
     let lines = lex(alloc, bytes)?;
-    let forms = forms_of(alloc, lines.as_slice())?;
+    let forms = forms_of(alloc, lines)?;
     build(alloc, forms)
 }
 
-/// The forms of the lines, or the fault of the first line that has none.
-fn forms_of(alloc: Global, lines: &[LogicalLine]) -> Result<FormLines, Stop>
-    ensures { IsFormed lines.now result }
+/// The forms of the lines, or the fault of the first line that has none. Each line goes as soon as it has its form, so that the next one can
+/// have its memory.
+fn forms_of(alloc: Global, lines: LogicalLines) -> Result<FormLines, Stop>
+    ensures { IsFormed lines result }
 {
-    let mut forms = FormLines::from_vec(Vec::with_capacity(alloc, lines.len())?);
-    for line in lines {
-        let made = line_form(alloc, line)?;
-        let form = Boxed::new(alloc, made)?;
-        forms.push(FormLine {
-            indent: line.indent,
-            line: line.line,
-            form,
-        })?;
+    let mut left = last_first(alloc, lines)?;
+    let mut forms = FormLines::from_vec(Vec::with_capacity(alloc, left.len())?);
+    while let Some(line) = left.pop() {
+        let form = formed(alloc, line)?;
+        forms.push(form)?;
     }
     Ok(forms)
+}
+
+/// The lines, the last of them first.
+fn last_first(alloc: Global, mut lines: LogicalLines) -> Result<LogicalLines, AllocError>
+    ensures { IfOk result (λ turned. turned ≡ reverse lines) }
+{
+    let mut turned = LogicalLines::from_vec(Vec::with_capacity(alloc, lines.len())?);
+    while let Some(line) = lines.pop() {
+        turned.push(line)?;
+    }
+    Ok(turned)
+}
+
+/// The form of the line, or its fault.
+fn formed(alloc: Global, line: LogicalLine) -> Result<FormLine, Stop>
+    ensures { IsLineFormed line result }
+{
+    let form = line_form(alloc, &line)?;
+    Ok(FormLine {
+        indent: line.indent,
+        line: line.line,
+        form: Boxed::new(alloc, form)?,
+    })
 }

@@ -1,28 +1,28 @@
-use Rattle.std.proofs.Common.{◌≡◌, ◌+◌, [], drop, Ok, sym, subst}
-use Rattle.std.proofs.lemmas.List.{drop_all}
+use Rattle.std.proofs.Common.{◌≡◌, ◌∷◌, ◌++◌, [], reverse, rules}
 use Rattle.std.proofs.lemmas.Result.{err_from_is_err_and}
 use Rattle.py_blocks.specs.Rows.{rows_of}
-use Rattle.py_expr.specs.LineAnswers.{IsSo}
-use Rattle.module_load.proofs.LineForms.{at_line, further, stopped, whole}
+use Rattle.module_load.proofs.LineForms.{at_first, at_line, further, stopped, whole}
 use Rattle.module_load.proofs.preparing.forms_of.Goals as goal
+
+pub loop-line-init : goal.loop-line-init
+loop-line-init c =
+    let none : c.from_vec-forms.result ≡ [] = search rules in
+    at_first c.args.lines c.in_ok-left.left c.from_vec-forms.result c.in_ok-left.ensures none
 
 pub loop-line-preserved : goal.loop-line-preserved
 loop-line-preserved c =
-    let lines = c.args.lines.now in
-    let k = c.loop-line.line-index in
-    let here = at_line lines (rows_of c.loop-line.forms) k c.line-item.result c.loop-line-test.true c.line-item.is c.loop-line.invariant in
-    further lines (drop (k + 1) lines) c.line-item.result c.loop-line.forms c.push.new.self c.in_ok-form.form here
-    (subst (λ form. IsSo c.line-item.result.tokens c.line-item.result.line (Ok form)) (sym c.in_ok-form.ensures) c.in_ok-made.ensures.so) c.in_ok-push.ensures.ok
+    let all : c.loop-line.left ≡ c.pop.new.self ++ c.in-Some.line ∷ [] = search rules in
+    let here = at_line c.args.lines (rows_of c.loop-line.forms) c.loop-line.left c.pop.new.self c.in-Some.line all c.loop-line.invariant in
+    further c.args.lines (reverse c.pop.new.self) c.in-Some.line c.loop-line.forms c.push.new.self c.in_ok-form.form here c.in_ok-form.ensures c.in_ok-push.ensures.ok
 
-pub returns-in_err-made : goal.returns-in_err-made
-returns-in_err-made c =
-    let lines = c.args.lines.now in
-    let k = c.loop-line.line-index in
-    let here = at_line lines (rows_of c.loop-line.forms) k c.line-item.result c.loop-line-test.true c.line-item.is c.loop-line.invariant in
-    let p = err_from_is_err_and c.from_residual-in_err-made.result c.from_residual-in_err-made.ensures.1 in
-    rw (p.1, p.2) (stopped lines (drop (k + 1) lines) c.line-item.result (rows_of c.loop-line.forms) c.in_err-made.field-0.0 here c.in_err-made.ensures.so)
+pub returns-in_err-form : goal.returns-in_err-form
+returns-in_err-form c =
+    let all : c.loop-line.left ≡ c.pop.new.self ++ c.in-Some.line ∷ [] = search rules in
+    let here = at_line c.args.lines (rows_of c.loop-line.forms) c.loop-line.left c.pop.new.self c.in-Some.line all c.loop-line.invariant in
+    let p = err_from_is_err_and c.from_residual-in_err-form.result c.from_residual-in_err-form.ensures.1 in
+    rw (p.1, p.2) (stopped c.args.lines (reverse c.pop.new.self) c.in-Some.line (rows_of c.loop-line.forms) c.in_err-form.field-0.0 here c.in_err-form.ensures)
 
 pub returns : goal.returns
 returns c =
-    let none : drop c.loop-line.line-index c.args.lines.now ≡ [] = drop_all c.loop-line.line-index c.args.lines.now c.loop-line-test.false in
-    whole c.args.lines.now (drop c.loop-line.line-index c.args.lines.now) (rows_of c.loop-line.forms) none c.loop-line.invariant
+    let none : c.loop-line.left ≡ [] = search rules in
+    whole c.args.lines c.loop-line.left (rows_of c.loop-line.forms) none c.loop-line.invariant
