@@ -21,7 +21,7 @@ use Rattle.py_blocks.specs.Blocks.{Rows}
 use Rattle.py_blocks.specs.Fits.{forms_fit}
 use Rattle.py_blocks.specs.Rows.{rows_of}
 use Rattle.module_load.specs.Markers.{is_marked}
-use Rattle.module_load.specs.Preparing.{fault, Forms, no_line, a_line, FirstFault, Prepares, too_large, bad_text, bad_line, bad_block, misplaced, a_module}
+use Rattle.module_load.specs.Preparing.{fault, Forms, no_line, a_line, Prepares, too_large, bad_text, bad_line, bad_block, misplaced, a_module}
 use Rattle.module_load.specs.Sources.{tree}
 use Rattle.module_load.specs.Parsing.{IsParsed, Spells, Spoilt, by_text, by_line, by_block}
 use Rattle.module_load.specs.Views.{IsFormed, IsRead}
