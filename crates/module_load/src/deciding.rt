@@ -15,6 +15,7 @@ use crate::known::Known;
 use crate::outer::outer;
 use crate::verdict::Verdict;
 use lists::Items;
+use py_tree::expression::Texts;
 use py_tree::fault::Stop;
 use py_tree::statement::Module;
 use py_tree::text::Text;
@@ -68,7 +69,7 @@ fn published<K: Known>(
         return Err(Stop::Fault(fault));
     }
     let modules = module_names(alloc, outer.bindings.as_slice())?;
-    Ok(held(alloc, &modules, resolved.globals.as_slice())?)
+    Ok(held(alloc, &modules, resolved.globals)?)
 }
 
 /// The names that are bound to modules.
@@ -102,15 +103,14 @@ fn is_module(kind: &OuterKind) -> bool
 }
 
 /// Each name, and whether it is bound to a module.
-fn held(alloc: Global, modules: &Names<'_>, names: &[Text]) -> Result<Globals, AllocError>
-    ensures { IfOk result (λ globals. globals ≡ rule.held modules.now names.now) }
+fn held(alloc: Global, modules: &Names<'_>, mut names: Texts) -> Result<Globals, AllocError>
+    ensures { IfOk result (λ globals. globals ≡ rule.held modules.now names) }
 {
-    let mut rows = Items::from_vec(Vec::with_capacity(alloc, names.len())?);
-    for name in names {
-        rows.push(ModuleGlobal {
-            name: name.copy(alloc)?,
-            holds_module: modules.has(name),
-        })?;
+    let mut rows = Vec::with_capacity(alloc, names.len())?;
+    while let Some(name) = names.pop() {
+        let holds_module = modules.has(&name);
+        rows.push(ModuleGlobal { name, holds_module })?;
     }
-    Globals::from_rows(alloc, rows)
+    rows.reverse();
+    Globals::from_rows(alloc, Items::from_vec(rows))
 }

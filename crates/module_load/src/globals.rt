@@ -74,7 +74,7 @@ impl Globals {
 fn places_of(alloc: Global, rows: &[ModuleGlobal]) -> Result<NamePlaces, AllocError>
     ensures { IfOk result (λ places. ArePlacesOf places (map (λ (g : Row). g.name) rows.now)) }
 {
-    let mut places = NamePlaces::new(alloc);
+    let mut places = NamePlaces::with_room(alloc, rows.len())?;
     for (place, row) in rows.iter().enumerate() {
         places.note(alloc, &row.name, place)?;
     }

@@ -1,4 +1,4 @@
-ghost use Rattle.std.specs.Prelude.{◌≡◌, None, Some, OnOk, if◌then◌else◌};
+ghost use Rattle.std.specs.Prelude.{◌≡◌, None, Some, IfOk, OnOk, if◌then◌else◌};
 ghost use Rattle.std.specs.Option.{option_or};
 ghost use Rattle.std.specs.Str.{bytes_eq};
 ghost use Rattle.py_tree.specs.Syntax.{Text as Name};
@@ -15,13 +15,13 @@ pub(crate) struct NamePlaces {
 }
 
 impl NamePlaces {
-    /// No name has a place.
-    pub(crate) fn new(alloc: Global) -> NamePlaces
-        ensures { (name : Name) → first_place result name ≡ None }
+    /// No name has a place; there is room for so many.
+    pub(crate) fn with_room(alloc: Global, count: usize) -> Result<NamePlaces, AllocError>
+        ensures { IfOk result (λ places. (name : Name) → first_place places name ≡ None) }
     {
-        NamePlaces {
-            map: IndexMap::new(alloc),
-        }
+        Ok(NamePlaces {
+            map: IndexMap::with_capacity(alloc, count)?,
+        })
     }
 
     pub(crate) fn get(&self, name: &Text) -> Option<usize>

@@ -1,3 +1,4 @@
+use Rattle.std.proofs.Common.{refl}
 use Rattle.std.proofs.lemmas.Result.{err_from_is_err_and}
 use Rattle.module_load.proofs.Decided.{body_passes, import_found, imports_pass, names_pass, outer_is, publish, spent_found, unbuilt_found, unnamed}
 use Rattle.module_load.proofs.deciding.published.Goals as goal
@@ -49,4 +50,4 @@ returns g c =
     let o = outer_is known name c.args.number body m c.in_ok-outer.outer c.as_slice-body.ensures c.in_ok-outer.ensures in
     let named = names_pass known name c.args.number m c.in_ok-outer.outer c.in_ok-resolved.resolved imports o c.in_ok-resolved.ensures.right in
     let built = body_passes m body c.unbuilt.result c.as_slice-body.ensures c.unbuilt.ensures c.in_default-unbuilt.is in
-    publish known name c.args.number m c.in_ok-outer.outer c.in_ok-resolved.resolved body c.as_slice.result.now c.in_ok-modules.modules c.as_slice-2.result.now c.spent.result c.in_ok-held.field-0 named o c.as_slice-body.ensures built c.spent.ensures c.in_default-spent.is c.as_slice.ensures c.as_slice-2.ensures c.in_ok-modules.ensures c.in_ok-held.ensures
+    publish known name c.args.number m c.in_ok-outer.outer c.in_ok-resolved.resolved body c.as_slice.result.now c.in_ok-modules.modules c.in_ok-resolved.resolved.globals c.spent.result c.in_ok-held.field-0 named o c.as_slice-body.ensures built c.spent.ensures c.in_default-spent.is c.as_slice.ensures refl c.in_ok-modules.ensures c.in_ok-held.ensures
