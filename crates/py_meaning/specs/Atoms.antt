@@ -1,12 +1,12 @@
 -- Atoms put in for host values: in values, objects, states and images.
-use Rattle.std.specs.Prelude.{ℕ, List, [], ◌∷◌, map, Option, Some, None}
+use Rattle.std.specs.Prelude.{ℕ, List, map, Option}
 use Rattle.std.specs.Option.{option_map}
 use Rattle.key_map.specs.Entries.{Entry}
 use Rattle.gradual_types.specs.Values as v
 use Rattle.gradual_types.specs.Values.{Value, Values, Content}
 use Rattle.gradual_types.specs.States.{State, Variable, Default}
 use Rattle.gradual_types.specs.Images.{Atom, atom_value}
-use Rattle.py_meaning.specs.Modules.{World, Loaded}
+use Rattle.py_meaning.specs.Modules.{Loaded}
 
 -- which atom a host slot is given, by the number of its module and its own
 abbrev pub Atoms : Type 0

@@ -1,6 +1,6 @@
 -- What the globals hold that defs, classes and imports bind: where they are bound, what the statement gives over these images.
-use Rattle.std.specs.Prelude.{◌≡◌, ℕ, true, if◌then◌else◌, List, [], ◌∷◌, map, codes, slice_get, Option, Some, None}
-use Rattle.std.specs.List.{Contains, filter, flat_map}
+use Rattle.std.specs.Prelude.{◌≡◌, ℕ, true, if◌then◌else◌, List, [], ◌∷◌, codes, slice_get, Some, None}
+use Rattle.std.specs.List.{Contains, flat_map}
 use Rattle.std.specs.Option.{option_and_then, option_map}
 use Rattle.std.specs.Str.{bytes_eq}
 use Rattle.py_tree.specs.Syntax as x
@@ -14,7 +14,7 @@ use Rattle.gradual_types.specs.Values as v
 use Rattle.gradual_types.specs.Values.{Value}
 use Rattle.gradual_types.specs.States.{State, Variable, value_of}
 use Rattle.gradual_types.specs.Images.{Atom, atom_value}
-use Rattle.py_meaning.specs.Modules.{World, ModuleText, Loaded, FunctionIn, functions, written_name, image_at, image_globals, text_of_image, is_own}
+use Rattle.py_meaning.specs.Modules.{World, ModuleText, Loaded, FunctionIn, functions, written_name, image_at, is_own}
 use Rattle.py_meaning.specs.Imports.{module_named, global_of_module, binds_nothing}
 
 -- a host slot as it is, or the atom in its place

@@ -9,7 +9,7 @@ use Rattle.gradual_types.specs.declared.facts.Facts.{Facts}
 use Rattle.gradual_types.specs.Values.{Value}
 use Rattle.gradual_types.specs.States.{State, Variable}
 use Rattle.py_meaning.specs.Acts.{Run, Gives, Halts, ◌>>=◌}
-use Rattle.py_meaning.specs.Modules.{World, Setting, ModuleText, Loaded, KnownFunction, functions, function_of, image_at, text_of}
+use Rattle.py_meaning.specs.Modules.{World, Setting, ModuleText, Loaded, KnownFunction, functions, function_of, text_of}
 use Rattle.py_meaning.specs.Atoms.{Atoms, put_images}
 use Rattle.py_meaning.specs.Calls.{Oracle}
 use Rattle.py_meaning.specs.ModuleFacts.{facts_of}

@@ -1,11 +1,9 @@
 -- When a world and a state belong together: what a value names is there, and an object holds what its kind has. No place has a type yet, so no
 -- place holds a primitive.
-use Rattle.std.specs.Prelude.{◌≡◌, ℕ, suc, pos, Bool, true, false, not, ◌&&◌, ◌||◌, ◌==◌, List, [], ◌∷◌, length, map, slice_get, Option, Some, None, is_none, is_some}
+use Rattle.std.specs.Prelude.{◌≡◌, ℕ, suc, pos, Bool, true, false, not, ◌&&◌, ◌||◌, ◌==◌, List, [], ◌∷◌, length, slice_get, Option, Some, None, is_none, is_some}
 use Rattle.std.specs.List.{list_all, list_any}
-use Rattle.py_tree.specs.Syntax as x
-use Rattle.py_tree.specs.Syntax.{Text, Param, Kind, Statement, Statements}
-use Rattle.py_tree.specs.Order.{of_scope}
-use Rattle.py_values.specs.Builtins.{name_of, text_methods, list_methods, dict_methods, named_among}
+use Rattle.py_tree.specs.Syntax.{Param, Statements}
+use Rattle.py_values.specs.Builtins.{text_methods, list_methods, dict_methods}
 use Rattle.py_values.specs.declared.builtin.Builtin.{Builtin}
 use Rattle.py_values.specs.declared.class_id.ClassId.{ClassId}
 use Rattle.py_values.specs.declared.class_id.ClassId.TheVariants as id
@@ -21,7 +19,7 @@ use Rattle.gradual_types.specs.declared.facts.Method.{Method}
 use Rattle.gradual_types.specs.Values as v
 use Rattle.gradual_types.specs.Values.{Value, Values, Content}
 use Rattle.gradual_types.specs.States.{State, Variable, Default, default_of}
-use Rattle.py_meaning.specs.Modules.{World, ModuleText, Loaded, KnownFunction, function_of, function_name, image_at, image_globals, image_defaults, text_of}
+use Rattle.py_meaning.specs.Modules.{World, ModuleText, Loaded, KnownFunction, function_of, function_name, image_at, text_of}
 use Rattle.py_meaning.specs.Classes.{class_facts, line_of, slots_of, same_class, own_method}
 use Rattle.py_meaning.specs.Comparisons.{same_builtin}
 use Rattle.py_meaning.specs.Looks.{objects_of}
