@@ -1,3 +1,4 @@
+pub mod Beside
 mod Programs
 mod Ends
 mod ExamplesOfStatements

@@ -25,3 +25,7 @@ pub mod Modes
 pub mod Runs
 pub mod ModuleFacts
 pub mod Outers
+pub mod Atoms
+pub mod WellFormed
+pub mod Bound
+pub mod Standing
