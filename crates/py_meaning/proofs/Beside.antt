@@ -9,7 +9,8 @@ use Rattle.py_meaning.specs.Acts.{Run}
 use Rattle.py_meaning.specs.Atoms.{Atoms, put_loaded, put_variable}
 use Rattle.py_meaning.specs.Calls.{Oracle}
 use Rattle.py_meaning.specs.Modules.{World, ModuleText, Loaded}
-use Rattle.py_meaning.specs.Standing.{AreAlike, Admits, StandsFor, given_facts, given_globals, with_atoms}
+use Rattle.py_meaning.specs.Standing.{AreAlike, Admits, StandsFor, given_globals, with_atoms}
+use Rattle.py_meaning.specs.Worlds.{given_facts}
 
 -- atoms put in change no facts
 facts_put : (atoms : Atoms) (l : Option (Option Loaded)) → option_map given_facts (option_map (option_map (put_loaded atoms)) l) ≡ option_map given_facts l

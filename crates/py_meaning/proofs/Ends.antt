@@ -7,8 +7,6 @@ use Rattle.py_values.specs.Builtins.{name_of}
 use Rattle.py_values.specs.declared.value.Home.TheVariants as home
 use Rattle.key_map.specs.Entries.{Entry}
 use Rattle.atom_ops.specs.Texts.{repr_of}
-use Rattle.symbols.specs.declared.outer.OuterBinding.{OuterBinding}
-use Rattle.symbols.specs.declared.outer.OuterKind.TheVariants as outer
 use Rattle.gradual_types.specs.Values as v
 use Rattle.gradual_types.specs.Values.{Value}
 use Rattle.gradual_types.specs.States.{State, Variable}
@@ -17,10 +15,10 @@ use Rattle.py_meaning.specs.Classes.{class_name, is_exception}
 use Rattle.py_meaning.specs.Looks as seen
 use Rattle.py_meaning.specs.Looks.{Seen, look}
 use Rattle.py_meaning.specs.Modes.{import_mode}
-use Rattle.py_meaning.specs.ModuleFacts.{facts_of, hosts}
 use Rattle.py_meaning.specs.Modules.{World, function_name, module_name}
 use Rattle.py_meaning.specs.Runs.{run_body, body_start}
 use Rattle.py_meaning.specs.TextForms.{args_in, method_name}
+use Rattle.py_meaning.specs.Worlds.{body_world}
 
 -- with the fuel used, the line, and the class of the exception or the code
 pub data End : Type 0 where
@@ -31,21 +29,9 @@ pub data End : Type 0 where
 
 -- ---- the world of a body
 
-abbrev host_binding : Text → OuterBinding
-host_binding name = record { name = name; kind = outer.Other }
-
-abbrev host_values : ℕ → List Text → List Value
-host_values n [] = []
-host_values n (name ∷ names) = v.Host 0 n ∷ host_values (suc n) names
-
+-- that of a module m, over no images
 abbrev pub world : Statements → World
-world body = record {
-  mode = import_mode (home.Module 0);
-  home = home.Module 0;
-  own = record { tree = body; facts = facts_of [] (record { name = codes "m"; number = 0; bindings = map host_binding (hosts body) }) body };
-  images = [];
-  hosts = host_values 0 (hosts body);
-}
+world body = body_world (import_mode (home.Module 0)) [] (codes "m") 0 body
 
 -- ---- values as texts
 

@@ -29,3 +29,4 @@ pub mod Atoms
 pub mod WellFormed
 pub mod Bound
 pub mod Standing
+pub mod Worlds

@@ -16,6 +16,7 @@ use Rattle.py_meaning.specs.ModuleFacts.{facts_of}
 use Rattle.py_meaning.specs.Outers.{outer_of}
 use Rattle.py_meaning.specs.Runs.{body_of, body_setting, function_scope, result_of}
 use Rattle.py_meaning.specs.Statements.{exec_all}
+use Rattle.py_meaning.specs.Worlds.{given_facts}
 
 -- ---- what a block is to do
 
@@ -51,9 +52,6 @@ pub record Fits (local_names global_names : Option (List Text)) (s : State) : Ty
   pub globals : (names : List Text) → global_names ≡ Some names → names_in s.globals ≡ names
 
 -- ---- worlds in which code is to do it
-
-abbrev pub given_facts : Option Loaded → Option Facts
-given_facts l = option_map (λ l. l.image.facts) l
 
 abbrev pub given_globals : Option Loaded → Option (List Variable)
 given_globals l = option_map (λ l. l.image.globals) l
