@@ -7,3 +7,7 @@ mod ExamplesOfExceptions
 mod ExamplesOfModes
 mod ExamplesOfFuel
 mod ExamplesOfBodies
+pub mod Steps
+pub mod StepsOfOperators
+pub mod StepsOfTexts
+pub mod StepsOfNames
