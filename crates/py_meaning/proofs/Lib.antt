@@ -11,3 +11,6 @@ pub mod Steps
 pub mod StepsOfOperators
 pub mod StepsOfTexts
 pub mod StepsOfNames
+pub mod StepsOfLoops
+pub mod StepsOfMethods
+pub mod StepsOfBuiltins
