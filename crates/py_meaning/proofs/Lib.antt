@@ -14,3 +14,4 @@ pub mod StepsOfNames
 pub mod StepsOfLoops
 pub mod StepsOfMethods
 pub mod StepsOfBuiltins
+pub mod StepsOfCalls

@@ -11,6 +11,7 @@ use Rattle.py_values.specs.declared.value.Home.{Home}
 use Rattle.key_map.specs.Entries.{find_entry, put_entry}
 use Rattle.atom_ops.specs.Operators.{Index}
 use Rattle.symbols.specs.Words.{exception_named}
+use Rattle.gradual_types.specs.declared.py_type.PyType.{PyType}
 use Rattle.gradual_types.specs.Values as v
 use Rattle.gradual_types.specs.Values.{Value}
 use Rattle.gradual_types.specs.States.{value_of}
@@ -20,14 +21,19 @@ use Rattle.py_meaning.specs.Classes.{Found, slots_of, method_of}
 use Rattle.py_meaning.specs.Looks as seen
 use Rattle.py_meaning.specs.Looks.{Seen, write, home_of}
 use Rattle.py_meaning.specs.Operands.{operand, range_count, range_item, item_at}
-use Rattle.py_meaning.specs.Boundaries.{Origin}
+use Rattle.py_meaning.specs.Boundaries.{Origin, pass}
 use Rattle.py_meaning.specs.Names.{globals_of, is_global, is_local, read_local, read_global, read_special, read_builtin, read_name}
-use Rattle.py_meaning.specs.Attributes.{slot_number, held, bound_builtin, bound_method, function_or_raise, member, attribute, get_attribute, put_slot, set_slot, no_attribute, write_attribute, set_attribute}
+use Rattle.py_meaning.specs.Attributes.{slot_number, slot_type, held, bound_builtin, bound_method, function_or_raise, member, attribute, get_attribute, put_slot, set_slot, no_attribute, write_attribute, set_attribute}
 use Rattle.py_meaning.specs.Subscripts.{item, get_item, test_item_write, write_item, set_item}
 use Rattle.py_meaning.proofs.Steps.{Steps, Kept, at, seq, if_kept, raises, errs, or_raises, looks, sees, may_write_kept, may_write_at_kept}
 use Rattle.py_meaning.proofs.StepsOfOperators.{tables, places, items_at, keys}
 
 module _ {w : World} (q : Steps w) where
+  -- ---- places with a type
+
+  pub passes : (k : Scope) (origin : Origin) (type : PyType) (value : Value) → Kept q (pass (at w k) origin type value)
+  passes k origin type value = q.gives value
+
   -- ---- names
 
   pub reads_local : (k : Scope) (name : Text) → Kept q (read_local (at w k) name)
@@ -85,7 +91,7 @@ module _ {w : World} (q : Steps w) where
 
   pub sets_slot : (k : Scope) (h : Home) (n : ℕ) (class : ClassId) (origin : Origin) (value : Value) (number : Option ℕ) → Kept q (set_slot (at w k) h n class origin value number)
   sets_slot k h n class origin value None = raises q kind.AttributeError
-  sets_slot k h n class origin value (Some number) = q.bind (q.gives value) (λ passed. q.bind (sees q h n) (λ object. puts_slot h n number passed object))
+  sets_slot k h n class origin value (Some number) = q.bind (passes k origin (slot_type (slots_of w class) number) value) (λ passed. q.bind (sees q h n) (λ object. puts_slot h n number passed object))
 
   pub has_no_attribute : (h : Option Home) → Kept q (no_attribute w h)
   has_no_attribute h = seq q (may_write_at_kept q h) (raises q kind.AttributeError)
