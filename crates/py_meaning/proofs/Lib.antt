@@ -15,3 +15,4 @@ pub mod StepsOfLoops
 pub mod StepsOfMethods
 pub mod StepsOfBuiltins
 pub mod StepsOfCalls
+pub mod StepsOfExpressions

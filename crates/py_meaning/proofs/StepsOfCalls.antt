@@ -117,3 +117,10 @@ module _ {w : World} {p q : Steps w} (t : Ticked p q) {call call' : Oracle} (hc 
   supers_of class =
       q.bind (reads q k (codes "self")) (λ self. q.bind (looks q self) (λ object. q.bind (chosen q (is_instance w class object) (q.gives tt) (errs q)) (λ a.
       q.bind (finds_method q name (first_method w name (drop 1 (line_of w class)))) (λ found. q.bind ha (λ args. t.by (reaches p hc k class self args found))))))
+
+  pub supers_in : (class : Option ℕ) → Both q (super_call (at w (record k { class = class })) call name arguments) (super_call (at w (record k { class = class })) call' name arguments')
+  supers_in None = errs q
+  supers_in (Some n) = supers_of (id.User k.«module» n)
+
+  pub supers : Both q (super_call (at w k) call name arguments) (super_call (at w k) call' name arguments')
+  supers = supers_in k.class
