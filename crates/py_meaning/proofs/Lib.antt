@@ -16,3 +16,5 @@ pub mod StepsOfMethods
 pub mod StepsOfBuiltins
 pub mod StepsOfCalls
 pub mod StepsOfExpressions
+pub mod StepsOfTargets
+pub mod StepsOfStatements
