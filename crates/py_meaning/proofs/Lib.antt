@@ -18,3 +18,5 @@ pub mod StepsOfCalls
 pub mod StepsOfExpressions
 pub mod StepsOfTargets
 pub mod StepsOfStatements
+pub mod Keeps
+pub mod RunLaws

@@ -25,3 +25,4 @@ pub mod Modes
 pub mod Runs
 pub mod ModuleFacts
 pub mod Outers
+pub mod Laws

@@ -1,0 +1,53 @@
+-- What holds of all runs: of the bodies of modules, and of calls from outside.
+use Rattle.std.specs.Prelude.{◌≡◌, ℕ, ◌+◌, ◌^◌, ◌<◌, ◌≤◌, List, length, ◌++◌}
+use Rattle.py_tree.specs.Syntax.{Text}
+use Rattle.py_values.specs.declared.value.Home.{Home}
+use Rattle.heap_seg.specs.declared.rules.Answer.TheVariants.{Go}
+use Rattle.gradual_types.specs.Values.{Value}
+use Rattle.gradual_types.specs.States.{State}
+use Rattle.py_meaning.specs.Acts.{Run, Gives, Halts}
+use Rattle.py_meaning.specs.Modules.{World}
+use Rattle.py_meaning.specs.Modes.{import_mode}
+use Rattle.py_meaning.specs.Runs.{meaning, run_body, call_from_outside, shown_from_outside}
+
+-- the state that a run leaves, whatever it ends in
+abbrev pub end_of : {A : Type 0} → Run A → State
+end_of (Gives s a) = s
+end_of (Halts s why) = s
+
+-- it holds from the state before each run in a world to the state that the run leaves
+pub record InRuns (w : World) (Holds : State → State → Type 0) : Type 0 where
+  pub of_body : (m : ℕ) (s : State) → Holds s (end_of (run_body w m s))
+  pub of_call : (callee : Value) (args : List Value) (s : State) → Holds s (end_of (call_from_outside w callee args s))
+  pub of_shown : (callee : Value) (args : List Value) (s : State) → Holds s (end_of (shown_from_outside w callee args s))
+
+-- ---- fuel, output, checks, objects
+
+abbrev pub FuelNeverRises : Type 0
+FuelNeverRises = (w : World) → InRuns w (λ before after. after.fuel ≤ before.fuel)
+
+abbrev pub OutputOnlyGrows : Type 0
+OutputOnlyGrows = (w : World) → InRuns w (λ before after. (more : Text) × (after.output ≡ before.output ++ more))
+
+-- the count stays where it is full
+abbrev pub ChecksNeverFall : Type 0
+ChecksNeverFall = (w : World) → InRuns w (λ before after. before.checks < 2 ^ 64 → (before.checks ≤ after.checks) × (after.checks < 2 ^ 64))
+
+abbrev pub ObjectsStay : Type 0
+ObjectsStay = (w : World) → InRuns w (λ before after. length before.own ≤ length after.own)
+
+-- ---- what is outside of a run
+
+-- rules that let no write pass but to what the run makes, and no print
+pub record KeepsOut (w : World) : Type 0 where
+  pub writes : (h : Home) → w.mode.on_write h ≡ Go → h ≡ w.home
+  pub prints : w.mode.on_print ≡ Go → ⊥
+
+abbrev pub OutsideUnchanged : World → Type 0
+OutsideUnchanged w = InRuns w (λ before after. (after.others ≡ before.others) × (after.output ≡ before.output))
+
+-- ---- fuel is enough for the calls
+
+-- with more calls than there is fuel, a function does what it does with any more calls
+abbrev pub CallsEndWithFuel : Type 0
+CallsEndWithFuel = (w : World) (calls more m n : ℕ) (values : List Value) (s : State) → s.fuel < calls → meaning w (calls + more) m n values s ≡ meaning w calls m n values s
