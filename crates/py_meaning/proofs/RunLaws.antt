@@ -2,9 +2,10 @@
 use Rattle.std.proofs.Common.{arith, sym, ap, subst, ◌∙◌}
 use Rattle.std.proofs.lemmas.Bool.{eqb-true, eq-eqb}
 use Rattle.std.proofs.lemmas.List.{append_assoc, append-nil, length-append, length-set}
-use Rattle.std.specs.Prelude.{◌≡◌, refl, ◌<◌, ℕ, ◌+◌, ◌≤◌, ◌^◌, ◌-◌, ◌==◌, min, length, List, [], ◌∷◌, ◌++◌, slice_set, Bool, true, false, if◌then◌else◌}
+use Rattle.std.specs.Prelude.{◌≡◌, ◌≢◌, refl, ◌<◌, ℕ, ◌+◌, ◌≤◌, ◌^◌, ◌-◌, ◌==◌, min, length, List, [], ◌∷◌, ◌++◌, slice_set, Bool, true, false, if◌then◌else◌}
 use Rattle.py_tree.specs.Syntax.{Text}
-use Rattle.py_tree.specs.declared.code.Code.TheVariants.{ForeignWrite}
+use Rattle.py_tree.specs.declared.code.Code.TheVariants.{Effect, ForeignWrite}
+use Rattle.py_values.specs.declared.exception.ExcKind.TheVariants.{FrozenError}
 use Rattle.py_values.specs.declared.value.Home.{Home}
 use Rattle.py_values.specs.declared.value.Home.TheVariants as home
 use Rattle.heap_seg.specs.declared.rules.Answer.{Answer}
@@ -14,8 +15,7 @@ use Rattle.gradual_types.specs.Values.{Content}
 use Rattle.gradual_types.specs.States.{State}
 use Rattle.py_meaning.specs.Modules.{World}
 use Rattle.py_meaning.specs.Looks.{same_home, put_other, put_content}
-use Rattle.py_meaning.specs.Modes.{import_mode}
-use Rattle.py_meaning.specs.Laws.{InRuns, FuelNeverRises, OutputOnlyGrows, ChecksNeverFall, ObjectsStay, KeepsOut, OutsideUnchanged}
+use Rattle.py_meaning.specs.Laws.{InRuns, FuelNeverRises, OutputOnlyGrows, ChecksNeverFall, ObjectsStay, WritesItsOwn, PrintsNothing, OthersUnchanged, OutputUnchanged, ImportsKeepIn, EntriesKeepIn}
 use Rattle.py_meaning.proofs.Keeps.{Steady, in_runs}
 
 -- ---- a write to an object changes the objects of one home
@@ -132,67 +132,85 @@ objects_rise w = record {
 pub objects_stay : ObjectsStay
 objects_stay w = in_runs (objects_rise w)
 
--- ---- what is outside of a run
+-- ---- the objects of other homes
 
-abbrev Outside : State → State → Type 0
-Outside s t = (t.others ≡ s.others) × (t.output ≡ s.output)
-
-same_outside : (s : State) → Outside s s
-same_outside s = (refl, refl)
+abbrev SameOthers : State → State → Type 0
+SameOthers s t = t.others ≡ s.others
 
 is_itself : (h : Home) → same_home h h ≡ true
 is_itself (home.Module m) = eq-eqb m m refl
 is_itself home.Host = refl
 is_itself home.Run = refl
 
-own_written : (w : World) (n : ℕ) (content : Content) (s : State) → Outside s (put_content w w.home n content s)
+own_written : (w : World) (n : ℕ) (content : Content) (s : State) → SameOthers s (put_content w w.home n content s)
 own_written w n content s = by (same_home w.home w.home) (is_itself w.home) where
-  by : (own : Bool) → own ≡ true → Outside s (if own then record s { own = slice_set s.own n content } else put_other w.home n content s)
-  by true e = same_outside s
+  by : (own : Bool) → own ≡ true → SameOthers s (if own then record s { own = slice_set s.own n content } else put_other w.home n content s)
+  by true e = refl
   by false e = absurd cc
 
-outside_stays : (w : World) → KeepsOut w → Steady w Outside
-outside_stays w out = record {
-  stays = same_outside;
-  joins = λ a b c ab bc. (bc.0 ∙ ab.0, bc.1 ∙ ab.1);
-  spends = λ fuel s less. same_outside s;
-  makes = λ content s. same_outside s;
-  puts = λ h n content s lets. subst (λ i. Outside s (put_content w i n content s)) (sym (out.writes h lets)) (own_written w n content s);
-  prints = λ text s lets. absurd (out.prints lets);
-  counts = same_outside;
-  binds_global = λ name value s. same_outside s;
-  binds_local = λ name value s. same_outside s;
-  sets_default = λ function param value s. same_outside s;
-  sets_line = λ line s. same_outside s;
+others_stay : (w : World) → WritesItsOwn w → Steady w SameOthers
+others_stay w own = record {
+  stays = λ s. refl;
+  joins = λ a b c ab bc. bc ∙ ab;
+  spends = λ fuel s less. refl;
+  makes = λ content s. refl;
+  puts = λ h n content s lets. subst (λ i. SameOthers s (put_content w i n content s)) (sym (own h lets)) (own_written w n content s);
+  prints = λ text s lets. refl;
+  counts = λ s. refl;
+  binds_global = λ name value s. refl;
+  binds_local = λ name value s. refl;
+  sets_default = λ function param value s. refl;
+  sets_line = λ line s. refl;
   frames = λ locals s t kept. kept;
 }
 
-pub outside_unchanged : (w : World) → KeepsOut w → OutsideUnchanged w
-outside_unchanged w out = in_runs (outside_stays w out)
+pub others_unchanged : OthersUnchanged
+others_unchanged w own = in_runs (others_stay w own)
 
--- ---- the rules of imports
+-- ---- no output
+
+abbrev SameOutput : State → State → Type 0
+SameOutput s t = t.output ≡ s.output
+
+output_stays : (w : World) → PrintsNothing w → Steady w SameOutput
+output_stays w none = record {
+  stays = λ s. refl;
+  joins = λ a b c ab bc. bc ∙ ab;
+  spends = λ fuel s less. refl;
+  makes = λ content s. refl;
+  puts = λ h n content s lets. written (SameOutput s) w n content s refl (λ others. refl) h;
+  prints = λ text s lets. absurd (none lets);
+  counts = λ s. refl;
+  binds_global = λ name value s. refl;
+  binds_local = λ name value s. refl;
+  sets_default = λ function param value s. refl;
+  sets_line = λ line s. refl;
+  frames = λ locals s t kept. kept;
+}
+
+pub output_unchanged : OutputUnchanged
+output_unchanged w none = in_runs (output_stays w none)
+
+-- ---- the rules of imports and of entries
 
 same_homes : (h i : Home) → same_home h i ≡ true → h ≡ i
 same_homes (home.Module m) (home.Module n) e = ap home.Module (eqb-true m n e)
-same_homes (home.Module m) home.Host e = absurd cc
-same_homes (home.Module m) home.Run e = absurd cc
-same_homes home.Host (home.Module n) e = absurd cc
 same_homes home.Host home.Host e = refl
-same_homes home.Host home.Run e = absurd cc
-same_homes home.Run (home.Module n) e = absurd cc
-same_homes home.Run home.Host e = absurd cc
 same_homes home.Run home.Run e = refl
+same_homes _ _ e = absurd cc
 
-let_to_own : (h own : Home) → (import_mode own).on_write h ≡ rules.Go → h ≡ own
-let_to_own h own lets = by (same_home h own) refl lets where
-  by : (same : Bool) → same_home h own ≡ same → (if same then rules.Go else rules.Refuse ForeignWrite) ≡ rules.Go → h ≡ own
+let_to_own : (h own : Home) (other : Answer) → other ≢ rules.Go → (if same_home h own then rules.Go else other) ≡ rules.Go → h ≡ own
+let_to_own h own other refused lets = by (same_home h own) refl lets where
+  by : (same : Bool) → same_home h own ≡ same → (if same then rules.Go else other) ≡ rules.Go → h ≡ own
   by true e lets = same_homes h own e
-  by false e lets = absurd cc
+  by false e lets = absurd (refused lets)
 
-pub imports_keep_out : (w : World) → w.mode ≡ import_mode w.home → KeepsOut w
-imports_keep_out w e = record {
-  writes = λ h lets. let_to_own h w.home (sym (ap (λ (mode : Mode). mode.on_write h) e) ∙ lets);
-  prints = λ lets. refused (sym (ap (λ (mode : Mode). mode.on_print) e) ∙ lets);
-} where
-  refused : (import_mode w.home).on_print ≡ rules.Go → ⊥
-  refused lets = cc
+pub imports_keep_in : ImportsKeepIn
+imports_keep_in w e = (writes, prints) where
+  writes : WritesItsOwn w
+  writes h lets = let_to_own h w.home (rules.Refuse ForeignWrite) (λ same. cc) (sym (ap (λ (mode : Mode). mode.on_write h) e) ∙ lets)
+  prints : PrintsNothing w
+  prints lets = let refused : rules.Refuse Effect ≡ rules.Go = sym (ap (λ (mode : Mode). mode.on_print) e) ∙ lets in cc
+
+pub entries_keep_in : EntriesKeepIn
+entries_keep_in w e at_run h lets = let_to_own h home.Run (rules.Raise FrozenError) (λ same. cc) (sym (ap (λ (mode : Mode). mode.on_write h) e) ∙ lets) ∙ sym at_run

@@ -1,13 +1,14 @@
 -- What holds of all runs: of the bodies of modules, and of calls from outside.
-use Rattle.std.specs.Prelude.{◌≡◌, ℕ, ◌+◌, ◌^◌, ◌<◌, ◌≤◌, List, length, ◌++◌}
+use Rattle.std.specs.Prelude.{◌≡◌, ◌≢◌, ℕ, ◌+◌, ◌^◌, ◌<◌, ◌≤◌, List, length, ◌++◌}
 use Rattle.py_tree.specs.Syntax.{Text}
 use Rattle.py_values.specs.declared.value.Home.{Home}
+use Rattle.py_values.specs.declared.value.Home.TheVariants as home
 use Rattle.heap_seg.specs.declared.rules.Answer.TheVariants.{Go}
 use Rattle.gradual_types.specs.Values.{Value}
 use Rattle.gradual_types.specs.States.{State}
 use Rattle.py_meaning.specs.Acts.{Run, Gives, Halts}
 use Rattle.py_meaning.specs.Modules.{World}
-use Rattle.py_meaning.specs.Modes.{import_mode}
+use Rattle.py_meaning.specs.Modes.{import_mode, entry_mode}
 use Rattle.py_meaning.specs.Runs.{meaning, run_body, call_from_outside, shown_from_outside}
 
 -- the state that a run leaves, whatever it ends in
@@ -38,13 +39,26 @@ ObjectsStay = (w : World) → InRuns w (λ before after. length before.own ≤ l
 
 -- ---- what is outside of a run
 
--- rules that let no write pass but to what the run makes, and no print
-pub record KeepsOut (w : World) : Type 0 where
-  pub writes : (h : Home) → w.mode.on_write h ≡ Go → h ≡ w.home
-  pub prints : w.mode.on_print ≡ Go → ⊥
+-- its rules let no write pass but to what the run makes
+abbrev pub WritesItsOwn : World → Type 0
+WritesItsOwn w = (h : Home) → w.mode.on_write h ≡ Go → h ≡ w.home
 
-abbrev pub OutsideUnchanged : World → Type 0
-OutsideUnchanged w = InRuns w (λ before after. (after.others ≡ before.others) × (after.output ≡ before.output))
+-- its rules let no print pass
+abbrev pub PrintsNothing : World → Type 0
+PrintsNothing w = w.mode.on_print ≢ Go
+
+abbrev pub OthersUnchanged : Type 0
+OthersUnchanged = (w : World) → WritesItsOwn w → InRuns w (λ before after. after.others ≡ before.others)
+
+abbrev pub OutputUnchanged : Type 0
+OutputUnchanged = (w : World) → PrintsNothing w → InRuns w (λ before after. after.output ≡ before.output)
+
+-- so it is of imports, and of entries what modules made is unchanged
+abbrev pub ImportsKeepIn : Type 0
+ImportsKeepIn = (w : World) → w.mode ≡ import_mode w.home → WritesItsOwn w × PrintsNothing w
+
+abbrev pub EntriesKeepIn : Type 0
+EntriesKeepIn = (w : World) → w.mode ≡ entry_mode → w.home ≡ home.Run → WritesItsOwn w
 
 -- ---- fuel is enough for the calls
 
