@@ -9,7 +9,7 @@ use Rattle.heap_seg.specs.declared.rules.Answer.TheVariants as rules
 use Rattle.gradual_types.specs.Values as v
 use Rattle.gradual_types.specs.Values.{Value, Content}
 use Rattle.gradual_types.specs.States.{State, Variable}
-use Rattle.py_meaning.specs.Acts.{Act, Halt, Raised, Refused, Flow, ◌>>=◌, ◌>>◌, give, halt, choose, pay}
+use Rattle.py_meaning.specs.Acts.{Act, Halt, Raised, Refused, Flow, ◌>>=◌, ◌>>◌, give, halt, choose, pay, tick}
 use Rattle.py_meaning.specs.Modules.{World, Scope, Setting}
 use Rattle.py_meaning.specs.Looks as seen
 use Rattle.py_meaning.specs.Looks.{look, see_object, seen_content, objects_of, make, write, may_write, may_write_at, print_out, raise, type_error, or_raise, ask, count_check}
@@ -47,6 +47,10 @@ Both q {A} m m' = q.both A m m'
 -- of an action that calls nothing
 abbrev pub Kept : {w : World} (q : Steps w) {A : Type 0} → Act A → Type 0
 Kept q m = Both q m m
+
+-- what the first predicate says of an action, the second says of it behind a fuel of 1
+pub record Ticked {w : World} (p q : Steps w) : Type 1 where
+  pub by : {A : Type 0} {m m' : Act A} → Both p m m' → Both q (tick >> m) (tick >> m')
 
 -- in a world, where code of that scope is run
 abbrev pub at : World → Scope → Setting
@@ -99,3 +103,6 @@ module _ {w : World} (q : Steps w) where
   looks (v.Object h n) = sees h n
   looks (v.Host m n) = seq (asks w.mode.on_look) (q.gives seen.Nil)
   looks _ = q.gives _
+
+  pub ticked : Ticked q q
+  ticked = record { by = seq (q.pays 1) }

@@ -10,7 +10,7 @@ use Rattle.gradual_types.specs.declared.facts.Signature.{Signature}
 use Rattle.gradual_types.specs.Values as v
 use Rattle.gradual_types.specs.Values.{Value}
 use Rattle.gradual_types.specs.States.{default_of}
-use Rattle.py_meaning.specs.Acts.{Act, ◌>>◌, tick}
+use Rattle.py_meaning.specs.Acts.{Act}
 use Rattle.py_meaning.specs.Modules.{World, Scope, KnownFunction, function_of}
 use Rattle.py_meaning.specs.Classes.{Found, slots_of, line_of, first_method, method_of, is_exception}
 use Rattle.py_meaning.specs.Looks as seen
@@ -18,14 +18,10 @@ use Rattle.py_meaning.specs.Looks.{Seen}
 use Rattle.py_meaning.specs.Arguments.{Argument, Given, bound, has_keyword, positional, with_receiver}
 use Rattle.py_meaning.specs.Calls.{Oracle, defaults_of, type_at, default_value, pass_given, params_of, in_frame, begun, entered, enter, enter_method, args_value, new_slots, unless_none, takes_no_argument, initialized, construct, is_instance, found_or_init, put_args, unreached, reached, super_of, super_call}
 use Rattle.py_meaning.specs.Expressions.{called_builtin, called_method, called_bound, called}
-use Rattle.py_meaning.proofs.Steps.{Steps, Both, Kept, at, seq, chosen, raises, errs, or_raises, looks, may_write_kept}
+use Rattle.py_meaning.proofs.Steps.{Steps, Ticked, Both, Kept, at, seq, chosen, raises, errs, or_raises, looks, may_write_kept}
 use Rattle.py_meaning.proofs.StepsOfNames.{passes, reads}
 use Rattle.py_meaning.proofs.StepsOfMethods.{method_results, asks_for}
 use Rattle.py_meaning.proofs.StepsOfBuiltins as builtins
-
--- what the first predicate says of an action, the second says of it behind a fuel of 1
-pub record Ticked {w : World} (p q : Steps w) : Type 1 where
-  pub by : {A : Type 0} {m m' : Act A} → Both p m m' → Both q (tick >> m) (tick >> m')
 
 module _ {w : World} (q : Steps w) where
   -- ---- what is done without a call

@@ -15,11 +15,11 @@ use Rattle.py_meaning.specs.Boundaries.{Origin}
 use Rattle.py_meaning.specs.Arguments.{Argument}
 use Rattle.py_meaning.specs.Calls.{Oracle, boxed}
 use Rattle.py_meaning.specs.Expressions.{Form, Plain, Super, Static, form_of, converted, last_origin, call_by, in_turn, filled, made_dict, eval, eval_all, eval_last, eval_pairs, eval_arguments, eval_keywords}
-use Rattle.py_meaning.proofs.Steps.{Steps, Both, Kept, at, seq, chosen, looks}
+use Rattle.py_meaning.proofs.Steps.{Steps, Ticked, Both, Kept, at, seq, chosen, looks}
 use Rattle.py_meaning.proofs.StepsOfOperators.{tables, truths, opposites, binaries, comparisons}
 use Rattle.py_meaning.proofs.StepsOfNames.{passes, reads, gets_attribute, gets_item}
 use Rattle.py_meaning.proofs.StepsOfMethods.{puts_pairs}
-use Rattle.py_meaning.proofs.StepsOfCalls.{Ticked, calls, supers}
+use Rattle.py_meaning.proofs.StepsOfCalls.{calls, supers}
 
 module _ {w : World} (q : Steps w) where
   pub converts : (k : Scope) (name : StaticName) (origin : Origin) (value : Value) → Kept q (converted (at w k) name origin value)

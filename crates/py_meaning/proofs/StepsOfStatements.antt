@@ -12,11 +12,11 @@ use Rattle.py_meaning.specs.Boundaries.{From, origin_of}
 use Rattle.py_meaning.specs.Calls.{Oracle}
 use Rattle.py_meaning.specs.Statements.{then_on, exec, exec_all, exec_branches, exec_clauses}
 use Rattle.py_meaning.specs.Runs.{opened_locals, result_of, function_scope, body_of, run_function, meaning, module_scope, run_body, outer_scope, outer_argument, call_from_outside}
-use Rattle.py_meaning.proofs.Steps.{Steps, Both, Kept, at, seq, chosen, errs, looks}
+use Rattle.py_meaning.proofs.Steps.{Steps, Ticked, Both, Kept, ticked, at, seq, chosen, errs, looks}
 use Rattle.py_meaning.proofs.StepsOfOperators.{truths}
 use Rattle.py_meaning.proofs.StepsOfNames.{passes}
 use Rattle.py_meaning.proofs.StepsOfLoops.{overs, whiles}
-use Rattle.py_meaning.proofs.StepsOfCalls.{Ticked, calls}
+use Rattle.py_meaning.proofs.StepsOfCalls.{calls}
 use Rattle.py_meaning.proofs.StepsOfExpressions.{evals}
 use Rattle.py_meaning.proofs.StepsOfTargets.{takes_kept, clauses_kept, imports_modules, imports_members, raises_again, raises_by, assigns, augments, defs, classes}
 
@@ -83,15 +83,12 @@ module _ {w : World} {p q : Steps w} (t : Ticked p q) {call call' : Oracle} (hc 
 -- ---- whole runs
 
 module _ {w : World} (q : Steps w) where
-  pub ticked : Ticked q q
-  ticked = record { by = seq q (q.pays 1) }
-
   pub meanings : (calls m n : ℕ) (values : List Value) → Kept q (meaning w calls m n values)
   meanings zero m n values = q.halts Spent
-  meanings (suc calls) m n values = functions ticked (meanings calls) m (function_of w m n) values
+  meanings (suc calls) m n values = functions (ticked q) (meanings calls) m (function_of w m n) values
 
   pub bodies : (m : ℕ) → Kept q (run_body w m)
-  bodies m = q.at_state (λ s. execs_all ticked (meanings (suc s.fuel)) (module_scope m) w.own.tree)
+  bodies m = q.at_state (λ s. execs_all (ticked q) (meanings (suc s.fuel)) (module_scope m) w.own.tree)
 
   pub outer_calls : (callee : Value) (args : List Value) → Kept q (call_from_outside w callee args)
   outer_calls callee args = seq q (q.pays 1) (q.at_state (λ s. q.bind (looks q callee) (calls q (meanings (suc s.fuel)) outer_scope (map outer_argument args))))

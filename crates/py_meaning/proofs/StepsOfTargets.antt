@@ -24,13 +24,13 @@ use Rattle.py_meaning.specs.Targets.{assign_name, assign_all, unpack, assign, li
 use Rattle.py_meaning.specs.Exceptions.{raised_by, raised_again, exception_classes, classes_in, takes, bind_some, in_clause}
 use Rattle.py_meaning.specs.Definitions.{function_number, set_defaults, set_all_defaults, define, defined, def_statement, class_number, class_value, member, members, read_base, class_statement}
 use Rattle.py_meaning.specs.Imports.{module_named, import_modules, binds_nothing, taken, import_members}
-use Rattle.py_meaning.proofs.Steps.{Steps, Both, Kept, at, seq, chosen, raises, errs, looks, may_write_kept}
+use Rattle.py_meaning.proofs.Steps.{Steps, Ticked, Both, Kept, at, seq, chosen, raises, errs, looks, may_write_kept}
 use Rattle.py_meaning.proofs.StepsOfOperators.{binaries}
 use Rattle.py_meaning.proofs.StepsOfNames.{passes, reads, gets_attribute, sets_attribute, gets_item, sets_item}
 use Rattle.py_meaning.proofs.StepsOfLoops.{gathers}
 use Rattle.py_meaning.proofs.StepsOfMethods.{appends}
 use Rattle.py_meaning.proofs.StepsOfBuiltins.{looks_all}
-use Rattle.py_meaning.proofs.StepsOfCalls.{Ticked, constructs}
+use Rattle.py_meaning.proofs.StepsOfCalls.{constructs}
 use Rattle.py_meaning.proofs.StepsOfExpressions.{evals}
 
 -- ---- what calls nothing
