@@ -41,13 +41,13 @@ pub record Keeps (R : State → State → Type 0) {A : Type 0} (m : Act A) : Typ
 module _ {w : World} {R : State → State → Type 0} (k : Steady w R) where
   -- ---- joins
 
-  binds : {A B : Type 0} {m : Act A} {f : A → Act B} → Keeps R m → ((a : A) → Keeps R (f a)) → Keeps R (m >>= f)
+  pub binds : {A B : Type 0} {m : Act A} {f : A → Act B} → Keeps R m → ((a : A) → Keeps R (f a)) → Keeps R (m >>= f)
   binds {A} {B} {m} {f} hm hf = record { by = λ s. go s (m s) (hm.by s) } where
     go : (s : State) (r : Run A) → R s (end_of r) → R s (end_of (and_then r f))
     go s (Gives t a) h = k.joins s t _ h ((hf a).by t)
     go s (Halts t why) h = h
 
-  rescues : {body : Act Flow} {clauses : ℕ → Value → Act Flow} → Keeps R body → ((line : ℕ) (e : Value) → Keeps R (clauses line e)) → Keeps R (λ s. rescued (body s) clauses)
+  pub rescues : {body : Act Flow} {clauses : ℕ → Value → Act Flow} → Keeps R body → ((line : ℕ) (e : Value) → Keeps R (clauses line e)) → Keeps R (λ s. rescued (body s) clauses)
   rescues {body} {clauses} hb hc = record { by = λ s. go s (body s) (hb.by s) } where
     go : (s : State) (r : Run Flow) → R s (end_of r) → R s (end_of (rescued r clauses))
     go s (Gives t ended) h = h
@@ -60,7 +60,7 @@ module _ {w : World} {R : State → State → Type 0} (k : Steady w R) where
   unbinds_in c None (Some name) s = k.binds_global name None s
   unbinds_in c (Some names) (Some name) s = k.binds_local name None s
 
-  unbinds : (c : Setting) (name : Option Text) {body : Act Flow} → Keeps R body → Keeps R (λ s. unbound_behind c name (body s))
+  pub unbinds : (c : Setting) (name : Option Text) {body : Act Flow} → Keeps R body → Keeps R (λ s. unbound_behind c name (body s))
   unbinds c name {body} hb = record { by = λ s. go s (body s) (hb.by s) } where
     go : (s : State) (r : Run Flow) → R s (end_of r) → R s (end_of (unbound_behind c name r))
     go s (Gives t ended) h = k.joins s t _ h (unbinds_in c c.scope.locals name t)
@@ -68,7 +68,7 @@ module _ {w : World} {R : State → State → Type 0} (k : Steady w R) where
     go s (Halts t (Refused code)) h = h
     go s (Halts t Spent) h = h
 
-  frames : (locals : List Variable) {body : Act Value} → Keeps R body → Keeps R (λ s. back_in s (body (record s { locals = locals; depth = s.depth + 1 })))
+  pub frames : (locals : List Variable) {body : Act Value} → Keeps R body → Keeps R (λ s. back_in s (body (record s { locals = locals; depth = s.depth + 1 })))
   frames locals {body} hb = record { by = λ s. go s (body (record s { locals = locals; depth = s.depth + 1 })) (hb.by (record s { locals = locals; depth = s.depth + 1 })) } where
     go : (s : State) (r : Run Value) → R (record s { locals = locals; depth = s.depth + 1 }) (end_of r) → R s (end_of (back_in s r))
     go s (Gives t value) h = k.frames locals s t h
@@ -76,7 +76,7 @@ module _ {w : World} {R : State → State → Type 0} (k : Steady w R) where
 
   -- ---- primitives
 
-  pays : (cost : ℕ) → Keeps R (pay cost)
+  pub pays : (cost : ℕ) → Keeps R (pay cost)
   pays cost = record { by = λ s. go s (nat_le cost s.fuel) } where
     go : (s : State) (enough : Bool) → R s (end_of (if enough then Gives (record s { fuel = s.fuel - cost }) (tt {0}) else Halts (record s { fuel = 0 }) Spent))
     go s true = k.spends (s.fuel - cost) s (omega arith)
@@ -88,17 +88,17 @@ module _ {w : World} {R : State → State → Type 0} (k : Steady w R) where
   asked (rules.Raise e) h = record { by = k.makes _ }
   asked (rules.Refuse code) h = record { by = k.stays }
 
-  writes : (h : Home) (n : ℕ) (content : Content) → Keeps R (write w h n content)
+  pub writes : (h : Home) (n : ℕ) (content : Content) → Keeps R (write w h n content)
   writes h n content = asked (w.mode.on_write h) (λ lets. record { by = λ s. k.puts h n content s lets })
 
-  prints : (text : Text) → Keeps R (print_out w text)
+  pub prints : (text : Text) → Keeps R (print_out w text)
   prints text = asked w.mode.on_print (λ lets. record { by = λ s. k.prints text s lets })
 
-  sets_name : (c : Setting) (locals : Option (List Text)) (name : Text) (value : Option Value) → Keeps R (set_name (record c { scope = record (c.scope) { locals = locals } }) name value)
+  pub sets_name : (c : Setting) (locals : Option (List Text)) (name : Text) (value : Option Value) → Keeps R (set_name (record c { scope = record (c.scope) { locals = locals } }) name value)
   sets_name c None name value = record { by = k.binds_global name value }
   sets_name c (Some names) name value = record { by = k.binds_local name value }
 
-  sets_line : (c : Setting) (locals : Option (List Text)) (line : ℕ) → Keeps R (set_line (record c { scope = record (c.scope) { locals = locals } }) line)
+  pub sets_line : (c : Setting) (locals : Option (List Text)) (line : ℕ) → Keeps R (set_line (record c { scope = record (c.scope) { locals = locals } }) line)
   sets_line c None line = record { by = k.sets_line line }
   sets_line c (Some names) line = record { by = k.stays }
 

@@ -20,3 +20,4 @@ pub mod StepsOfTargets
 pub mod StepsOfStatements
 pub mod Keeps
 pub mod RunLaws
+pub mod Budgets

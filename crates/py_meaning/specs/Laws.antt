@@ -1,13 +1,15 @@
 -- What holds of all runs: of the bodies of modules, and of calls from outside.
-use Rattle.std.specs.Prelude.{◌≡◌, ◌≢◌, ℕ, ◌+◌, ◌^◌, ◌<◌, ◌≤◌, List, length, ◌++◌}
+use Rattle.std.specs.Prelude.{◌≡◌, ◌≢◌, ℕ, ◌+◌, ◌^◌, ◌<◌, ◌≤◌, List, length, ◌++◌, Bool, Option}
 use Rattle.py_tree.specs.Syntax.{Text}
 use Rattle.py_values.specs.declared.value.Home.{Home}
 use Rattle.py_values.specs.declared.value.Home.TheVariants as home
 use Rattle.heap_seg.specs.declared.rules.Answer.TheVariants.{Go}
+use Rattle.gradual_types.specs.Values as v
 use Rattle.gradual_types.specs.Values.{Value}
 use Rattle.gradual_types.specs.States.{State}
-use Rattle.py_meaning.specs.Acts.{Run, Gives, Halts}
+use Rattle.py_meaning.specs.Acts.{Act, Run, Gives, Halts, Flow}
 use Rattle.py_meaning.specs.Modules.{World}
+use Rattle.py_meaning.specs.Iterables.{over_list, over_range, while_true}
 use Rattle.py_meaning.specs.Modes.{import_mode, entry_mode}
 use Rattle.py_meaning.specs.Runs.{meaning, run_body, call_from_outside, shown_from_outside}
 
@@ -60,8 +62,21 @@ ImportsKeepIn = (w : World) → w.mode ≡ import_mode w.home → WritesItsOwn w
 abbrev pub EntriesKeepIn : Type 0
 EntriesKeepIn = (w : World) → w.mode ≡ entry_mode → w.home ≡ home.Run → WritesItsOwn w
 
--- ---- fuel is enough for the calls
+-- ---- fuel ends before calls and turns do
 
--- with more calls than there is fuel, a function does what it does with any more calls
+-- more calls than there is fuel are as many as any
 abbrev pub CallsEndWithFuel : Type 0
 CallsEndWithFuel = (w : World) (calls more m n : ℕ) (values : List Value) (s : State) → s.fuel < calls → meaning w (calls + more) m n values s ≡ meaning w calls m n values s
+
+abbrev pub NeverRaisesFuel : {A : Type 0} → Act A → Type 0
+NeverRaisesFuel act = (s : State) → (end_of (act s)).fuel ≤ s.fuel
+
+-- so are more turns: of a `while`, over a list and over a range
+pub record TurnsEndWithFuel (back : Act (Unit {0})) (body : Value → Act Flow) : Type 0 where
+  pub of_while : (test : Act Bool) → NeverRaisesFuel test → (turns more : ℕ) (s : State) → s.fuel < turns
+      → while_true back test (body v.Nil) (turns + more) s ≡ while_true back test (body v.Nil) turns s
+  pub of_list : (w : World) (h : Home) (n turns more i : ℕ) (s : State) → s.fuel < turns → over_list w h n back body (turns + more) i s ≡ over_list w h n back body turns i s
+  pub of_range : (item : ℕ → Option Value) (turns more i : ℕ) (s : State) → s.fuel < turns → over_range back body item (turns + more) i s ≡ over_range back body item turns i s
+
+abbrev pub LoopsEndWithFuel : Type 0
+LoopsEndWithFuel = (back : Act (Unit {0})) (body : Value → Act Flow) → NeverRaisesFuel back → ((x : Value) → NeverRaisesFuel (body x)) → TurnsEndWithFuel back body
