@@ -10,7 +10,7 @@ use Rattle.gradual_types.specs.States.{State, Variable}
 use Rattle.py_meaning.specs.Acts.{Act, Run, Gives, Halts, Raised, Refused, Spent, Flow, On, and_then, ◌>>=◌, ◌>>◌, give, halt, tick}
 use Rattle.py_meaning.specs.Modules.{World, Setting, function_of}
 use Rattle.py_meaning.specs.Exceptions.{rescued, unbound_behind}
-use Rattle.py_meaning.specs.Iterables.{while_true, over_list, over_range, listed_at}
+use Rattle.py_meaning.specs.Iterables.{turn, while_true, over_list, over_range, listed_at}
 use Rattle.py_meaning.specs.Runs.{back_in, meaning}
 use Rattle.py_meaning.specs.Laws.{end_of, CallsEndWithFuel, NeverRaisesFuel, TurnsEndWithFuel, LoopsEndWithFuel}
 use Rattle.py_meaning.proofs.Keeps as k
@@ -114,3 +114,48 @@ meanings w (suc calls) more m n values =
 
 pub calls_end_with_fuel : CallsEndWithFuel
 calls_end_with_fuel w calls more m n values = (meanings w calls more m n values).by
+
+-- ---- turns
+
+no_turn : {m : Act Flow} → Same zero (halt Spent) m
+no_turn = none_below (record { by = λ s. omega arith })
+
+-- one more of the budget is one more of the sum
+next_sum : (loop : ℕ → Act Flow) (n more : ℕ) → Same (suc n) (loop (suc n)) (loop (suc (n + more))) → Same (suc n) (loop (suc n)) (loop (suc n + more))
+next_sum loop n more same = let one : suc (n + more) ≡ suc n + more = omega arith in subst (λ all. Same (suc n) (loop (suc n)) (loop all)) one same
+
+module _ (w : World) {back : Act (Unit {0})} (hb : Keeps Falls back) where
+  turned : {body : Value → Act Flow} → ((x : Value) → Keeps Falls (body x)) → (n : ℕ) {next next' : Act Flow} → Same n next next'
+      → (x : Option Value) → Same (suc n) (turn back body next x) (turn back body next' x)
+  unfolding steps
+  turned h n hn x = turns (ticked w n) (itself hb) (λ y. itself (h y)) hn x
+
+  whiles : {test : Act Bool} {body : Act Flow} → Keeps Falls test → Keeps Falls body → (n more : ℕ) → Same n (while_true back test body n) (while_true back test body (n + more))
+  unfolding steps
+  whiles ht h zero more = no_turn
+  whiles {test} {body} ht h (suc n) more =
+      next_sum (while_true back test body) n more (bind w (suc n) (itself ht) (λ goes_on.
+      chosen (steps w (suc n)) goes_on (turned (λ x. h) n (whiles ht h n more) (Some v.Nil)) (itself (record { by = (fuel_falls w).stays }))))
+
+  module _ {body : Value → Act Flow} (h : (x : Value) → Keeps Falls (body x)) where
+    ranges : (item : ℕ → Option Value) (n more i : ℕ) → Same n (over_range back body item n i) (over_range back body item (n + more) i)
+    ranges item zero more i = no_turn
+    ranges item (suc n) more i = next_sum (λ budget. over_range back body item budget i) n more (turned h n (ranges item n more (suc i)) (item i))
+
+    lists : (j : Home) (m n more i : ℕ) → Same n (over_list w j m back body n i) (over_list w j m back body (n + more) i)
+    unfolding steps
+    lists j m zero more i = no_turn
+    lists j m (suc n) more i =
+        next_sum (λ budget. over_list w j m back body budget i) n more
+        (bind w (suc n) (sees (steps w (suc n)) j m) (λ a. turned h n (lists j m n more (suc i)) (listed_at i a)))
+
+pub loops_end_with_fuel : LoopsEndWithFuel
+loops_end_with_fuel w back body falls each = record {
+  of_while = λ test tests n more. (whiles w kept {test = test} (record { by = tests }) (all v.Nil) n more).by;
+  of_list = λ j m n more i. (lists w kept all j m n more i).by;
+  of_range = λ item n more i. (ranges w kept all item n more i).by;
+} where
+  kept : Keeps Falls back
+  kept = record { by = falls }
+  all : (x : Value) → Keeps Falls (body x)
+  all x = record { by = each x }

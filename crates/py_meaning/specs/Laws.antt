@@ -71,12 +71,12 @@ CallsEndWithFuel = (w : World) (calls more m n : ℕ) (values : List Value) (s :
 abbrev pub NeverRaisesFuel : {A : Type 0} → Act A → Type 0
 NeverRaisesFuel act = (s : State) → (end_of (act s)).fuel ≤ s.fuel
 
--- so are more turns: of a `while`, over a list and over a range
-pub record TurnsEndWithFuel (back : Act (Unit {0})) (body : Value → Act Flow) : Type 0 where
+-- so are more turns: of a `while`, whose body takes no item, over a list and over a range
+pub record TurnsEndWithFuel (w : World) (back : Act (Unit {0})) (body : Value → Act Flow) : Type 0 where
   pub of_while : (test : Act Bool) → NeverRaisesFuel test → (turns more : ℕ) (s : State) → s.fuel < turns
       → while_true back test (body v.Nil) (turns + more) s ≡ while_true back test (body v.Nil) turns s
-  pub of_list : (w : World) (h : Home) (n turns more i : ℕ) (s : State) → s.fuel < turns → over_list w h n back body (turns + more) i s ≡ over_list w h n back body turns i s
+  pub of_list : (h : Home) (n turns more i : ℕ) (s : State) → s.fuel < turns → over_list w h n back body (turns + more) i s ≡ over_list w h n back body turns i s
   pub of_range : (item : ℕ → Option Value) (turns more i : ℕ) (s : State) → s.fuel < turns → over_range back body item (turns + more) i s ≡ over_range back body item turns i s
 
 abbrev pub LoopsEndWithFuel : Type 0
-LoopsEndWithFuel = (back : Act (Unit {0})) (body : Value → Act Flow) → NeverRaisesFuel back → ((x : Value) → NeverRaisesFuel (body x)) → TurnsEndWithFuel back body
+LoopsEndWithFuel = (w : World) (back : Act (Unit {0})) (body : Value → Act Flow) → NeverRaisesFuel back → ((x : Value) → NeverRaisesFuel (body x)) → TurnsEndWithFuel w back body

@@ -1,5 +1,6 @@
 ghost use Rattle.py_meaning.specs.Laws.{FuelNeverRises, OutputOnlyGrows, ChecksNeverFall, ObjectsStay};
 ghost use Rattle.py_meaning.specs.Laws.{OthersUnchanged, OutputUnchanged, ImportsKeepIn, EntriesKeepIn};
+ghost use Rattle.py_meaning.specs.Laws.{CallsEndWithFuel, LoopsEndWithFuel};
 
 /// No run has more fuel at its end than at its start, whatever it ends in.
 pub fn fuel_never_rises()
@@ -28,4 +29,14 @@ pub fn outside_unchanged()
     ensures output { OutputUnchanged }
     ensures imports { ImportsKeepIn }
     ensures entries { EntriesKeepIn }
+{}
+
+/// More calls than there is fuel change nothing: what a function means is no matter of how many calls are allowed for.
+pub fn calls_end_with_fuel()
+    ensures { CallsEndWithFuel }
+{}
+
+/// More turns of a loop than there is fuel change nothing.
+pub fn loops_end_with_fuel()
+    ensures { LoopsEndWithFuel }
 {}
