@@ -11,14 +11,15 @@ use Rattle.py_meaning.specs.Acts.{Act, Run, Gives, Halts, Raised, Refused, Spent
 use Rattle.py_meaning.specs.Modules.{World, Setting, function_of}
 use Rattle.py_meaning.specs.Exceptions.{rescued, unbound_behind}
 use Rattle.py_meaning.specs.Iterables.{turn, while_true, over_list, over_range, listed_at}
-use Rattle.py_meaning.specs.Runs.{back_in, meaning}
-use Rattle.py_meaning.specs.Laws.{end_of, CallsEndWithFuel, NeverRaisesFuel, TurnsEndWithFuel, LoopsEndWithFuel}
+use Rattle.py_meaning.specs.Runs.{back_in, meaning, module_scope}
+use Rattle.py_meaning.specs.Laws.{end_of, TicksLowerFuel, CallsEndWithFuel, BodiesEndWithFuel, LoopsEndWithFuel}
 use Rattle.py_meaning.proofs.Keeps as k
 use Rattle.py_meaning.proofs.Keeps.{Keeps}
 use Rattle.py_meaning.proofs.RunLaws.{fuel_falls}
+use Rattle.py_meaning.proofs.Steps as every
 use Rattle.py_meaning.proofs.Steps.{Steps, Ticked, chosen, sees}
 use Rattle.py_meaning.proofs.StepsOfLoops.{turns}
-use Rattle.py_meaning.proofs.StepsOfStatements.{functions}
+use Rattle.py_meaning.proofs.StepsOfStatements.{execs_all, functions}
 
 abbrev Falls : State → State → Type 0
 Falls s t = t.fuel ≤ s.fuel
@@ -84,14 +85,17 @@ module _ (w : World) (n : ℕ) where
     counts = itself (record { by = (fuel_falls w).counts });
   }
 
--- behind a fuel of 1 less is below the bound
+-- ---- a fuel of 1
+
+abbrev paid : State → Bool → Run (Unit {0})
+paid s enough = if enough then Gives (record s { fuel = s.fuel - 1 }) tt else Halts (record s { fuel = 0 }) Spent
+
+-- behind it what is left is below a lower bound
 ticked_same : (w : World) (n : ℕ) {A : Type 0} {m m' : Act A} → Same n m m' → Same (suc n) (tick >> m) (tick >> m')
 ticked_same w n {A} {m} {m'} h = record {
   by = λ s below. go s below (nat_le 1 s.fuel) refl;
   falls = k.binds (fuel_falls w) (k.pays (fuel_falls w) 1) (λ a. h.falls);
 } where
-  paid : State → Bool → Run (Unit {0})
-  paid s enough = if enough then Gives (record s { fuel = s.fuel - 1 }) tt else Halts (record s { fuel = 0 }) Spent
   go : (s : State) → s.fuel < suc n → (enough : Bool) → nat_le 1 s.fuel ≡ enough → and_then (paid s enough) (λ _. m') ≡ and_then (paid s enough) (λ _. m)
   go s below true e = let some = leb-true 1 s.fuel e in h.by (record s { fuel = s.fuel - 1 }) (omega (arith, below, some))
   go s below false e = refl
@@ -99,6 +103,12 @@ ticked_same w n {A} {m} {m'} h = record {
 ticked : (w : World) (n : ℕ) → Ticked (steps w n) (steps w (suc n))
 unfolding steps
 ticked w n = record { by = ticked_same w n }
+
+pub ticks_lower_fuel : TicksLowerFuel
+ticks_lower_fuel s t e = by (nat_le 1 s.fuel) refl e where
+  by : (enough : Bool) → nat_le 1 s.fuel ≡ enough → paid s enough ≡ Gives t (tt {0}) → t.fuel < s.fuel
+  by true some e = let one = leb-true 1 s.fuel some in let left = ap (λ (r : Run (Unit {0})). (end_of r).fuel) e in omega (arith, one, left)
+  by false some e = absurd cc
 
 -- ---- calls
 
@@ -114,6 +124,10 @@ meanings w (suc calls) more m n values =
 
 pub calls_end_with_fuel : CallsEndWithFuel
 calls_end_with_fuel w calls more m n values = (meanings w calls more m n values).by
+
+pub bodies_end_with_fuel : BodiesEndWithFuel
+unfolding steps
+bodies_end_with_fuel w more m s = (execs_all (every.ticked (steps w (suc s.fuel))) (meanings w (suc s.fuel) more) (module_scope m) w.own.tree).by s (omega arith)
 
 -- ---- turns
 

@@ -1,5 +1,5 @@
 -- What holds of all runs: of the bodies of modules, and of calls from outside.
-use Rattle.std.specs.Prelude.{◌≡◌, ◌≢◌, ℕ, ◌+◌, ◌^◌, ◌<◌, ◌≤◌, List, length, ◌++◌, Bool, Option}
+use Rattle.std.specs.Prelude.{◌≡◌, ◌≢◌, ℕ, suc, ◌+◌, ◌^◌, ◌<◌, ◌≤◌, List, length, ◌++◌, Bool, Option}
 use Rattle.py_tree.specs.Syntax.{Text}
 use Rattle.py_values.specs.declared.value.Home.{Home}
 use Rattle.py_values.specs.declared.value.Home.TheVariants as home
@@ -7,11 +7,12 @@ use Rattle.heap_seg.specs.declared.rules.Answer.TheVariants.{Go}
 use Rattle.gradual_types.specs.Values as v
 use Rattle.gradual_types.specs.Values.{Value}
 use Rattle.gradual_types.specs.States.{State}
-use Rattle.py_meaning.specs.Acts.{Act, Run, Gives, Halts, Flow}
+use Rattle.py_meaning.specs.Acts.{Act, Run, Gives, Halts, Flow, tick}
 use Rattle.py_meaning.specs.Modules.{World}
 use Rattle.py_meaning.specs.Iterables.{over_list, over_range, while_true}
 use Rattle.py_meaning.specs.Modes.{import_mode, entry_mode}
-use Rattle.py_meaning.specs.Runs.{meaning, run_body, call_from_outside, shown_from_outside}
+use Rattle.py_meaning.specs.Statements.{exec_all}
+use Rattle.py_meaning.specs.Runs.{meaning, body_setting, run_body, call_from_outside, shown_from_outside}
 
 -- the state that a run leaves, whatever it ends in
 abbrev pub end_of : {A : Type 0} → Run A → State
@@ -64,9 +65,16 @@ EntriesKeepIn = (w : World) → w.mode ≡ entry_mode → w.home ≡ home.Run �
 
 -- ---- fuel ends before calls and turns do
 
--- more calls than there is fuel are as many as any
+-- each statement, call and turn of a loop begins with one
+abbrev pub TicksLowerFuel : Type 0
+TicksLowerFuel = (s t : State) → tick s ≡ Gives t tt → t.fuel < s.fuel
+
+-- more calls than there is fuel are as many as any: in a function, and in the body of a module
 abbrev pub CallsEndWithFuel : Type 0
 CallsEndWithFuel = (w : World) (calls more m n : ℕ) (values : List Value) (s : State) → s.fuel < calls → meaning w (calls + more) m n values s ≡ meaning w calls m n values s
+
+abbrev pub BodiesEndWithFuel : Type 0
+BodiesEndWithFuel = (w : World) (more m : ℕ) (s : State) → exec_all (body_setting w m) (meaning w (suc s.fuel + more)) w.own.tree s ≡ run_body w m s
 
 abbrev pub NeverRaisesFuel : {A : Type 0} → Act A → Type 0
 NeverRaisesFuel act = (s : State) → (end_of (act s)).fuel ≤ s.fuel

@@ -1,6 +1,6 @@
 ghost use Rattle.py_meaning.specs.Laws.{FuelNeverRises, OutputOnlyGrows, ChecksNeverFall, ObjectsStay};
 ghost use Rattle.py_meaning.specs.Laws.{OthersUnchanged, OutputUnchanged, ImportsKeepIn, EntriesKeepIn};
-ghost use Rattle.py_meaning.specs.Laws.{CallsEndWithFuel, LoopsEndWithFuel};
+ghost use Rattle.py_meaning.specs.Laws.{TicksLowerFuel, CallsEndWithFuel, BodiesEndWithFuel, LoopsEndWithFuel};
 
 /// No run has more fuel at its end than at its start, whatever it ends in.
 pub fn fuel_never_rises()
@@ -31,9 +31,15 @@ pub fn outside_unchanged()
     ensures entries { EntriesKeepIn }
 {}
 
-/// More calls than there is fuel change nothing: what a function means is no matter of how many calls are allowed for.
+/// Behind a fuel of 1 there is less fuel. Each statement, call and turn of a loop begins with one, so that evaluation ends.
+pub fn ticks_lower_fuel()
+    ensures { TicksLowerFuel }
+{}
+
+/// More calls than there is fuel change nothing: what a run means is no matter of how many calls are allowed for.
 pub fn calls_end_with_fuel()
-    ensures { CallsEndWithFuel }
+    ensures functions { CallsEndWithFuel }
+    ensures bodies { BodiesEndWithFuel }
 {}
 
 /// More turns of a loop than there is fuel change nothing.
