@@ -1,13 +1,13 @@
 -- More calls or turns than there is fuel change nothing: the actions do the same from every state with fuel below a bound.
 use Rattle.std.proofs.Common.{arith, ap, subst, ◌∙◌}
 use Rattle.std.proofs.lemmas.Bool.{leb-true}
-use Rattle.std.specs.Prelude.{◌≡◌, refl, ℕ, zero, suc, ◌+◌, ◌-◌, ◌<◌, ◌≤◌, List, Option, Some, None, Bool, true, false, if◌then◌else◌, nat_le}
+use Rattle.std.specs.Prelude.{◌≡◌, refl, ℕ, zero, suc, ◌+◌, ◌-◌, ◌<◌, ◌≤◌, List, Option, Some, Bool, true, false, if◌then◌else◌, nat_le}
 use Rattle.py_tree.specs.Syntax.{Text}
 use Rattle.py_values.specs.declared.value.Home.{Home}
 use Rattle.gradual_types.specs.Values as v
 use Rattle.gradual_types.specs.Values.{Value}
 use Rattle.gradual_types.specs.States.{State, Variable}
-use Rattle.py_meaning.specs.Acts.{Act, Run, Gives, Halts, Raised, Refused, Spent, Flow, On, and_then, ◌>>=◌, ◌>>◌, give, halt, tick}
+use Rattle.py_meaning.specs.Acts.{Act, Run, Gives, Halts, Raised, Refused, Spent, Flow, and_then, ◌>>=◌, ◌>>◌, halt, tick}
 use Rattle.py_meaning.specs.Modules.{World, Setting, function_of}
 use Rattle.py_meaning.specs.Exceptions.{rescued, unbound_behind}
 use Rattle.py_meaning.specs.Iterables.{turn, while_true, over_list, over_range, listed_at}
@@ -171,5 +171,6 @@ loops_end_with_fuel w back body falls each = record {
 } where
   kept : Keeps Falls back
   kept = record { by = falls }
+
   all : (x : Value) → Keeps Falls (body x)
   all x = record { by = each x }

@@ -2,18 +2,17 @@
 use Rattle.std.proofs.Common.{arith}
 use Rattle.std.specs.Prelude.{◌≡◌, refl, ℕ, ◌+◌, ◌-◌, ◌≤◌, min, ◌^◌, List, [], ◌∷◌, ◌++◌, Option, Some, None, Bool, true, false, if◌then◌else◌, nat_le}
 use Rattle.py_tree.specs.Syntax.{Text}
-use Rattle.py_values.specs.declared.exception.ExcKind.{ExcKind}
 use Rattle.py_values.specs.declared.value.Home.{Home}
 use Rattle.heap_seg.specs.declared.rules.Answer.{Answer}
 use Rattle.heap_seg.specs.declared.rules.Answer.TheVariants as rules
 use Rattle.gradual_types.specs.Values.{Value, Content}
 use Rattle.gradual_types.specs.States.{State, Variable, with_value, with_default}
-use Rattle.py_meaning.specs.Acts.{Act, Run, Gives, Halts, Halt, Raised, Refused, Spent, Flow, and_then, ◌>>=◌, ◌>>◌, give, halt, pay}
-use Rattle.py_meaning.specs.Modules.{World, Scope, Setting}
-use Rattle.py_meaning.specs.Looks.{make, write, put_content, print_out, ask, count_check}
+use Rattle.py_meaning.specs.Acts.{Act, Run, Gives, Halts, Raised, Refused, Spent, Flow, and_then, ◌>>=◌, ◌>>◌, pay}
+use Rattle.py_meaning.specs.Modules.{World, Setting}
+use Rattle.py_meaning.specs.Looks.{write, put_content, print_out, ask}
 use Rattle.py_meaning.specs.Names.{set_name}
-use Rattle.py_meaning.specs.Exceptions.{rescued, passed_on, unbind, unbound_behind}
-use Rattle.py_meaning.specs.Definitions.{set_line, set_default}
+use Rattle.py_meaning.specs.Exceptions.{rescued, unbind, unbound_behind}
+use Rattle.py_meaning.specs.Definitions.{set_line}
 use Rattle.py_meaning.specs.Runs.{back_in}
 use Rattle.py_meaning.specs.Laws.{end_of, InRuns}
 use Rattle.py_meaning.proofs.Steps.{Steps}

@@ -2,7 +2,7 @@
 use Rattle.std.proofs.Common.{arith, sym, ap, subst, ◌∙◌}
 use Rattle.std.proofs.lemmas.Bool.{eqb-true, eq-eqb}
 use Rattle.std.proofs.lemmas.List.{append_assoc, append-nil, length-append, length-set}
-use Rattle.std.specs.Prelude.{◌≡◌, ◌≢◌, refl, ◌<◌, ℕ, ◌+◌, ◌≤◌, ◌^◌, ◌-◌, ◌==◌, min, length, List, [], ◌∷◌, ◌++◌, slice_set, Bool, true, false, if◌then◌else◌}
+use Rattle.std.specs.Prelude.{◌≡◌, ◌≢◌, refl, ◌<◌, ℕ, ◌≤◌, ◌^◌, length, List, [], ◌∷◌, ◌++◌, slice_set, Bool, true, false, if◌then◌else◌}
 use Rattle.py_tree.specs.Syntax.{Text}
 use Rattle.py_tree.specs.declared.code.Code.TheVariants.{Effect, ForeignWrite}
 use Rattle.py_values.specs.declared.exception.ExcKind.TheVariants.{FrozenError}
@@ -15,7 +15,7 @@ use Rattle.gradual_types.specs.Values.{Content}
 use Rattle.gradual_types.specs.States.{State}
 use Rattle.py_meaning.specs.Modules.{World}
 use Rattle.py_meaning.specs.Looks.{same_home, put_other, put_content}
-use Rattle.py_meaning.specs.Laws.{InRuns, FuelNeverRises, OutputOnlyGrows, ChecksNeverFall, ObjectsStay, WritesItsOwn, PrintsNothing, OthersUnchanged, OutputUnchanged, ImportsKeepIn, EntriesKeepIn}
+use Rattle.py_meaning.specs.Laws.{FuelNeverRises, OutputOnlyGrows, ChecksNeverFall, ObjectsStay, WritesItsOwn, PrintsNothing, OthersUnchanged, OutputUnchanged, ImportsKeepIn, EntriesKeepIn}
 use Rattle.py_meaning.proofs.Keeps.{Steady, in_runs}
 
 -- ---- a write to an object changes the objects of one home
@@ -209,6 +209,7 @@ pub imports_keep_in : ImportsKeepIn
 imports_keep_in w e = (writes, prints) where
   writes : WritesItsOwn w
   writes h lets = let_to_own h w.home (rules.Refuse ForeignWrite) (λ same. cc) (sym (ap (λ (mode : Mode). mode.on_write h) e) ∙ lets)
+
   prints : PrintsNothing w
   prints lets = let refused : rules.Refuse Effect ≡ rules.Go = sym (ap (λ (mode : Mode). mode.on_print) e) ∙ lets in cc
 

@@ -16,7 +16,7 @@ use Rattle.py_meaning.specs.Classes.{Found, slots_of, line_of, first_method, met
 use Rattle.py_meaning.specs.Looks as seen
 use Rattle.py_meaning.specs.Looks.{Seen}
 use Rattle.py_meaning.specs.Arguments.{Argument, Given, bound, has_keyword, positional, with_receiver}
-use Rattle.py_meaning.specs.Calls.{Oracle, defaults_of, type_at, default_value, pass_given, params_of, in_frame, begun, entered, enter, enter_method, args_value, new_slots, unless_none, takes_no_argument, initialized, construct, is_instance, found_or_init, put_args, unreached, reached, super_of, super_call}
+use Rattle.py_meaning.specs.Calls.{Oracle, defaults_of, type_at, default_value, pass_given, params_of, begun, entered, enter, enter_method, args_value, new_slots, unless_none, takes_no_argument, initialized, construct, is_instance, found_or_init, put_args, unreached, reached, super_of, super_call}
 use Rattle.py_meaning.specs.Expressions.{called_builtin, called_method, called_bound, called}
 use Rattle.py_meaning.proofs.Steps.{Steps, Ticked, Both, Kept, at, seq, chosen, raises, errs, or_raises, looks, may_write_kept}
 use Rattle.py_meaning.proofs.StepsOfNames.{passes, reads}

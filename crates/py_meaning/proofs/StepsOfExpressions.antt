@@ -1,5 +1,5 @@
 -- What steps meet is met by expressions, where the oracles that answer their calls meet what is wanted behind the fuel of a call.
-use Rattle.std.specs.Prelude.{ℕ, List, [], ◌∷◌, ◌++◌, length}
+use Rattle.std.specs.Prelude.{ℕ, List, [], ◌++◌, length}
 use Rattle.py_tree.specs.Syntax as x
 use Rattle.py_tree.specs.Syntax.{Expression, Expressions, Pairs, Keywords}
 use Rattle.atom_ops.specs.Operators as op

@@ -1,5 +1,5 @@
 -- What steps meet is met by going over iterables.
-use Rattle.std.specs.Prelude.{ℕ, zero, suc, Bool, List, [], ◌∷◌, length, slice_get, Option, Some, None}
+use Rattle.std.specs.Prelude.{ℕ, zero, suc, Bool, List, [], ◌∷◌, length, Option, Some, None}
 use Rattle.py_values.specs.declared.exception.ExcKind.TheVariants as kind
 use Rattle.py_values.specs.declared.value.Home.{Home}
 use Rattle.gradual_types.specs.Values as v

@@ -15,12 +15,11 @@ use Rattle.gradual_types.specs.declared.py_type.PyType.{PyType}
 use Rattle.gradual_types.specs.Values as v
 use Rattle.gradual_types.specs.Values.{Value}
 use Rattle.gradual_types.specs.States.{value_of}
-use Rattle.py_meaning.specs.Acts.{Act, give}
-use Rattle.py_meaning.specs.Modules.{World, Scope, Setting, module_name}
+use Rattle.py_meaning.specs.Modules.{World, Scope, module_name}
 use Rattle.py_meaning.specs.Classes.{Found, slots_of, method_of}
 use Rattle.py_meaning.specs.Looks as seen
 use Rattle.py_meaning.specs.Looks.{Seen, write, home_of}
-use Rattle.py_meaning.specs.Operands.{operand, range_count, range_item, item_at}
+use Rattle.py_meaning.specs.Operands.{operand, range_count, range_item}
 use Rattle.py_meaning.specs.Boundaries.{Origin, pass}
 use Rattle.py_meaning.specs.Names.{globals_of, is_global, is_local, read_local, read_global, read_special, read_builtin, read_name}
 use Rattle.py_meaning.specs.Attributes.{slot_number, slot_type, held, bound_builtin, bound_method, function_or_raise, member, attribute, get_attribute, put_slot, set_slot, no_attribute, write_attribute, set_attribute}

@@ -1,5 +1,5 @@
 -- What steps meet is met by operators, keys and comparisons.
-use Rattle.std.specs.Prelude.{ℕ, zero, suc, ℤ, Bool, true, false, length, List, [], ◌∷◌, ◌++◌, Option, Some, None, IfSome}
+use Rattle.std.specs.Prelude.{ℕ, zero, suc, ℤ, Bool, true, false, List, [], ◌∷◌, ◌++◌, Option, Some, None, IfSome}
 use Rattle.py_tree.specs.declared.operator.BinaryOp.{BinaryOp}
 use Rattle.py_tree.specs.declared.operator.BinaryOp.TheVariants.{Add}
 use Rattle.py_tree.specs.declared.operator.CompareOp.{CompareOp}
@@ -10,7 +10,7 @@ use Rattle.atom_ops.specs.Operands as o
 use Rattle.atom_ops.specs.Operators.{Operation, Binary, Compare, place_in, row_of_known}
 use Rattle.gradual_types.specs.Values as v
 use Rattle.gradual_types.specs.Values.{Value}
-use Rattle.py_meaning.specs.Acts.{Act, give}
+use Rattle.py_meaning.specs.Acts.{Act}
 use Rattle.py_meaning.specs.Modules.{World}
 use Rattle.py_meaning.specs.Looks as seen
 use Rattle.py_meaning.specs.Looks.{Seen, make}
