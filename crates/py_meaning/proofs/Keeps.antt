@@ -17,7 +17,7 @@ use Rattle.py_meaning.specs.Runs.{back_in}
 use Rattle.py_meaning.specs.Laws.{end_of, InRuns}
 use Rattle.py_meaning.proofs.Steps.{Steps}
 use Rattle.py_meaning.proofs.StepsOfTexts.{reprs}
-use Rattle.py_meaning.proofs.StepsOfStatements.{bodies, outer_calls}
+use Rattle.py_meaning.proofs.StepsOfStatements.{meanings, bodies, outer_calls}
 
 -- a relation from a state to a later one that each step meets, in a world
 pub record Steady (w : World) (R : State → State → Type 0) : Type 0 where
@@ -127,6 +127,7 @@ module _ {w : World} {R : State → State → Type 0} (k : Steady w R) where
   pub in_runs : InRuns w R
   unfolding steps
   in_runs = record {
+    of_function = λ calls m n values. (meanings steps calls m n values).by;
     of_body = λ m. (bodies steps m).by;
     of_call = λ callee args. (outer_calls steps callee args).by;
     of_shown = λ callee args. (binds (outer_calls steps callee args) (reprs steps 100)).by;

@@ -1,4 +1,4 @@
--- What holds of all runs: of the bodies of modules, and of calls from outside.
+-- What holds of all runs: of functions, of the bodies of modules, and of calls from outside.
 use Rattle.std.specs.Prelude.{◌≡◌, ◌≢◌, ℕ, suc, ◌+◌, ◌^◌, ◌<◌, ◌≤◌, List, length, ◌++◌, Bool, Option}
 use Rattle.py_tree.specs.Syntax.{Text}
 use Rattle.py_values.specs.declared.value.Home.{Home}
@@ -21,6 +21,7 @@ end_of (Halts s why) = s
 
 -- it holds from the state before each run in a world to the state that the run leaves
 pub record InRuns (w : World) (Holds : State → State → Type 0) : Type 0 where
+  pub of_function : (calls m n : ℕ) (values : List Value) (s : State) → Holds s (end_of (meaning w calls m n values s))
   pub of_body : (m : ℕ) (s : State) → Holds s (end_of (run_body w m s))
   pub of_call : (callee : Value) (args : List Value) (s : State) → Holds s (end_of (call_from_outside w callee args s))
   pub of_shown : (callee : Value) (args : List Value) (s : State) → Holds s (end_of (shown_from_outside w callee args s))

@@ -17,7 +17,7 @@ pub fn checks_never_fall()
     ensures { ChecksNeverFall }
 {}
 
-/// An object that was made is never taken away, so that its number stays its own.
+/// No object that was made is taken away.
 pub fn objects_stay()
     ensures { ObjectsStay }
 {}
