@@ -8,3 +8,17 @@ mod ExamplesOfExceptions
 mod ExamplesOfModes
 mod ExamplesOfFuel
 mod ExamplesOfBodies
+pub mod Steps
+pub mod StepsOfOperators
+pub mod StepsOfTexts
+pub mod StepsOfNames
+pub mod StepsOfLoops
+pub mod StepsOfMethods
+pub mod StepsOfBuiltins
+pub mod StepsOfCalls
+pub mod StepsOfExpressions
+pub mod StepsOfTargets
+pub mod StepsOfStatements
+pub mod Keeps
+pub mod RunLaws
+pub mod Budgets

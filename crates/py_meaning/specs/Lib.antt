@@ -30,3 +30,4 @@ pub mod WellFormed
 pub mod Bound
 pub mod Standing
 pub mod Worlds
+pub mod Laws
