@@ -74,7 +74,7 @@ module _ {w : World} (q : Steps w) where
 
   pub binds_some : (k : Scope) (name : Option Text) (e : Value) → Kept q (bind_some (at w k) name e)
   binds_some k None e = q.gives tt
-  binds_some k (Some name) e = q.binds (at w k) name (Some e)
+  binds_some k (Some name) e = assigns_name k name (From Dynamic) e
 
   pub clauses_kept : (k : Scope) (name : Option Text) (e : Value) {body body' : Act Flow} → Both q body body' → Both q (in_clause (at w k) name e body) (in_clause (at w k) name e body')
   clauses_kept k name e h = q.unbinds (at w k) name (seq q (binds_some k name e) h)

@@ -3,6 +3,7 @@ use Rattle.std.specs.Prelude.{ℕ, Bool, false, List, [], ◌∷◌, Option, Som
 use Rattle.std.specs.List.{list_any}
 use Rattle.py_tree.specs.Syntax.{Text}
 use Rattle.py_values.specs.declared.class_id.ClassId.{ClassId}
+use Rattle.gradual_types.specs.declared.py_type.PyType.TheVariants.{Dynamic}
 use Rattle.gradual_types.specs.Values.{Value}
 use Rattle.gradual_types.specs.States.{State, with_value}
 use Rattle.py_meaning.specs.Acts.{Act, Run, Gives, Halts, Raised, Flow, ◌>>=◌, ◌>>◌, give, halt, done, tick, choose}
@@ -10,9 +11,10 @@ use Rattle.py_meaning.specs.Modules.{World, Setting}
 use Rattle.py_meaning.specs.Classes.{is_below, is_exception}
 use Rattle.py_meaning.specs.Looks as seen
 use Rattle.py_meaning.specs.Looks.{Seen, look, type_error}
-use Rattle.py_meaning.specs.Names.{bind_name}
+use Rattle.py_meaning.specs.Boundaries.{From}
 use Rattle.py_meaning.specs.Calls.{Oracle, construct}
 use Rattle.py_meaning.specs.Builtins.{look_all}
+use Rattle.py_meaning.specs.Targets.{assign_name}
 
 -- ---- `raise E`
 
@@ -75,7 +77,7 @@ catching c e = record c { scope = record (c.scope) { caught = Some e } }
 
 abbrev pub bind_some : Setting → Option Text → Value → Act (Unit {0})
 bind_some c None e = done
-bind_some c (Some name) e = bind_name c name e
+bind_some c (Some name) e = assign_name c name (From Dynamic) e
 
 abbrev pub unbind : Setting → Option Text → State → State
 unbind c None s = s

@@ -4,6 +4,7 @@ use Rattle.std.specs.Prelude.{◌≡◌, ◌≤◌, ℕ, List, map, length, slic
 use Rattle.std.specs.List.{Contains}
 use Rattle.std.specs.Option.{option_map}
 use Rattle.py_tree.specs.Syntax.{Text, Statements}
+use Rattle.py_values.specs.declared.value.Home.TheVariants as home
 use Rattle.symbols.specs.Bindings.{globals, locals}
 use Rattle.gradual_types.specs.declared.facts.Facts.{Facts}
 use Rattle.gradual_types.specs.Values.{Value}
@@ -12,11 +13,10 @@ use Rattle.py_meaning.specs.Acts.{Run, Gives, Halts, ◌>>=◌}
 use Rattle.py_meaning.specs.Modules.{World, Setting, ModuleText, Loaded, KnownFunction, functions, function_of, text_of}
 use Rattle.py_meaning.specs.Atoms.{Atoms, put_images}
 use Rattle.py_meaning.specs.Calls.{Oracle}
-use Rattle.py_meaning.specs.ModuleFacts.{facts_of}
-use Rattle.py_meaning.specs.Outers.{outer_of}
 use Rattle.py_meaning.specs.Runs.{body_of, body_setting, function_scope, result_of}
 use Rattle.py_meaning.specs.Statements.{exec_all}
-use Rattle.py_meaning.specs.Worlds.{given_facts}
+use Rattle.py_meaning.specs.Modes.{import_mode}
+use Rattle.py_meaning.specs.Worlds.{body_facts, given_facts}
 
 -- ---- what a block is to do
 
@@ -74,6 +74,10 @@ pub record Admits (m : ℕ) (t : ModuleText) (need : List ℕ) (images : List (O
 
 -- ---- standing
 
+-- the facts of a module are those of its trees over these images
+abbrev pub AreFactsOf : List (Option Loaded) → ℕ → Statements → Facts → Type 0
+AreFactsOf images m tree facts = facts ≡ body_facts (import_mode (home.Module m)) images facts.name m tree
+
 module _ (Block : Type 0) (Does : Block → Oracle → State → Run Value → Type 0) where
   pub record IsBlockOf (local_names global_names : Option (List Text)) (job : Job) (b : Block) : Type 0 where
     pub does : (call : Oracle) → MakesNoFuel call → (s : State) → Fits local_names global_names s → Does b call s (job call s)
@@ -84,6 +88,8 @@ module _ (Block : Type 0) (Does : Block → Oracle → State → Run Value → T
     pub body : (w : World) → Admits m t need images w → IsBlockOf None (Some (globals t.tree)) (body_job w m t.tree) body_block
     pub each_function : (w : World) → Admits m t need images w → (n : ℕ) (f : KnownFunction) (b : Block) → function_of w m n ≡ Some f → slice_get blocks n ≡ Some b → IsBlockOf (Some (locals f.function)) None (function_job w m f) b
 
--- the facts of a module are those of its trees, over the images of a world
-abbrev pub AreFactsOf : World → ℕ → Statements → Facts → Type 0
-AreFactsOf w m tree facts = facts ≡ facts_of (map given_facts w.images) (outer_of w facts.name m tree) tree
+  -- Of an image: its facts are those of its trees, and its code stands for them. Types come later: no tree has a fault of types, and no place
+  -- has a type.
+  pub record ImageStands (m : ℕ) (l : Loaded) (need : List ℕ) (images : List (Option Loaded)) (body_block : Block) (blocks : List Block) : Type 0 where
+    pub facts : AreFactsOf images m l.tree l.image.facts
+    pub code : StandsFor m (record { tree = l.tree; facts = l.image.facts }) need images body_block blocks
