@@ -1,5 +1,5 @@
 -- How the examples end: a body is run as a module's, over no images, under the rules of imports.
-use Rattle.std.specs.Prelude.{ℕ, zero, suc, ℤ, pos, negsuc, ◌+◌, ◌-◌, ◌/◌, ◌%◌, nat_lt, true, false, if◌then◌else◌, List, [], ◌∷◌, ◌++◌, map, codes, slice_get, Option, Some, None}
+use Rattle.std.specs.Prelude.{Bool, ℕ, zero, suc, ℤ, pos, negsuc, ◌+◌, ◌-◌, ◌/◌, ◌%◌, nat_lt, true, false, if◌then◌else◌, List, [], ◌∷◌, ◌++◌, map, codes, slice_get, Option, Some, None}
 use Rattle.std.specs.Ordering.{int_eq}
 use Rattle.py_tree.specs.Syntax.{Text, Statements}
 use Rattle.py_tree.specs.declared.code.Code.{Code}
@@ -9,7 +9,7 @@ use Rattle.key_map.specs.Entries.{Entry}
 use Rattle.atom_ops.specs.Texts.{repr_of}
 use Rattle.gradual_types.specs.Values as v
 use Rattle.gradual_types.specs.Values.{Value}
-use Rattle.gradual_types.specs.States.{State, Variable}
+use Rattle.gradual_types.specs.States.{State, Variable, value_of}
 use Rattle.py_meaning.specs.Acts.{Run, Gives, Halts, Raised, Refused, Spent, Flow}
 use Rattle.py_meaning.specs.Classes.{class_name, is_exception}
 use Rattle.py_meaning.specs.Looks as seen
@@ -121,3 +121,39 @@ ended_so w fuel (Halts s (Refused code)) = record { end = IsRefused (fuel - s.fu
 -- how a body ends with so much fuel
 abbrev pub ended : ℕ → Statements → Ended
 ended fuel body = ended_so (world body) fuel (run_body (world body) 0 (body_start (world body) fuel))
+
+-- ---- parts of it
+
+abbrev ended_run : ℕ → Statements → Run Flow
+ended_run fuel body = run_body (world body) 0 (body_start (world body) fuel)
+
+abbrev state_of : Run Flow → State
+state_of (Gives s flow) = s
+state_of (Halts s why) = s
+
+-- what a global holds at the end
+abbrev pub named_global : Text → Statements → Option Text
+named_global name body = shown (value_of name (state_of (ended_run 50000 body)).globals) where
+  shown : Option Value → Option Text
+  shown None = None
+  shown (Some value) = Some (value_text (world body) (state_of (ended_run 50000 body)) 20 value)
+
+-- the line and the code, where the body is refused
+abbrev pub refusal : Statements → Option (ℕ × Code)
+refusal body = of_run (ended_run 50000 body) where
+  of_run : Run Flow → Option (ℕ × Code)
+  of_run (Halts s (Refused code)) = Some (s.line, code)
+  of_run other = None
+
+-- what is left of so much fuel, where the body comes to its end
+abbrev pub fuel_left : ℕ → Statements → Option ℕ
+fuel_left fuel body = of_run (ended_run fuel body) where
+  of_run : Run Flow → Option ℕ
+  of_run (Gives s flow) = Some s.fuel
+  of_run other = None
+
+abbrev pub is_spent : ℕ → Statements → Bool
+is_spent fuel body = of_run (ended_run fuel body) where
+  of_run : Run Flow → Bool
+  of_run (Halts s Spent) = true
+  of_run other = false

@@ -8,6 +8,9 @@ mod ExamplesOfExceptions
 mod ExamplesOfModes
 mod ExamplesOfFuel
 mod ExamplesOfBodies
+mod ExamplesOfKinds
+mod ExamplesOfLooks
+mod ExamplesOfCosts
 pub mod Steps
 pub mod StepsOfOperators
 pub mod StepsOfTexts
