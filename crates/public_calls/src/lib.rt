@@ -22,6 +22,8 @@ mod keys;
 #[cfg(test)]
 mod lexer;
 #[cfg(test)]
+mod memory_folder;
+#[cfg(test)]
 mod operators;
 #[cfg(test)]
 mod phrases;
