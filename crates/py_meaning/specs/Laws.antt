@@ -5,6 +5,8 @@ use Rattle.py_values.specs.declared.value.Home.{Home}
 use Rattle.py_values.specs.declared.value.Home.TheVariants as home
 use Rattle.heap_seg.specs.declared.rules.Answer.TheVariants.{Go}
 use Rattle.gradual_types.specs.Values as v
+use Rattle.py_values.specs.Builtins.{builtin_names}
+use Rattle.symbols.specs.Words.{builtins}
 use Rattle.gradual_types.specs.Values.{Value}
 use Rattle.gradual_types.specs.States.{State}
 use Rattle.py_meaning.specs.Acts.{Act, Run, Gives, Halts, Flow, tick}
@@ -89,3 +91,9 @@ pub record TurnsEndWithFuel (w : World) (back : Act (Unit {0})) (body : Value �
 
 abbrev pub LoopsEndWithFuel : Type 0
 LoopsEndWithFuel = (w : World) (back : Act (Unit {0})) (body : Value → Act Flow) → NeverRaisesFuel back → ((x : Value) → NeverRaisesFuel (body x)) → TurnsEndWithFuel w back body
+
+-- ---- names
+
+-- the builtins that names are resolved against are those that evaluation reads
+abbrev pub SameBuiltins : Type 0
+SameBuiltins = builtins ≡ builtin_names

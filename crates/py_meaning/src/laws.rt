@@ -1,6 +1,6 @@
 ghost use Rattle.py_meaning.specs.Laws.{FuelNeverRises, OutputOnlyGrows, ChecksNeverFall, ObjectsStay};
 ghost use Rattle.py_meaning.specs.Laws.{OthersUnchanged, OutputUnchanged, ImportsKeepIn, EntriesKeepIn};
-ghost use Rattle.py_meaning.specs.Laws.{TicksLowerFuel, CallsEndWithFuel, BodiesEndWithFuel, LoopsEndWithFuel};
+ghost use Rattle.py_meaning.specs.Laws.{SameBuiltins, TicksLowerFuel, CallsEndWithFuel, BodiesEndWithFuel, LoopsEndWithFuel};
 
 /// No run has more fuel at its end than at its start, whatever it ends in.
 pub fn fuel_never_rises()
@@ -45,4 +45,9 @@ pub fn calls_end_with_fuel()
 /// More turns of a loop than there is fuel change nothing.
 pub fn loops_end_with_fuel()
     ensures { LoopsEndWithFuel }
+{}
+
+/// The names of builtins that no module binds, as names are resolved, are those of the builtins that evaluation reads.
+pub fn same_builtins()
+    ensures { SameBuiltins }
 {}
