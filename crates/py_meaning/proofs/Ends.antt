@@ -157,3 +157,6 @@ is_spent fuel body = of_run (ended_run fuel body) where
   of_run : Run Flow → Bool
   of_run (Halts s Spent) = true
   of_run other = false
+
+abbrev pub ended_state : Statements → State
+ended_state body = state_of (ended_run 50000 body)

@@ -8,7 +8,7 @@ use Rattle.py_tree.specs.declared.operator.CompareOp.TheVariants.{Eq}
 use Rattle.py_meaning.proofs.Programs.{int, text, name, call, block, on, marker, param, param_or, function, tested, if_or, except, try_or, class}
 use Rattle.py_meaning.proofs.Ends.{named_global, fuel_left, is_spent}
 
-abbrev recursion : Statements
+abbrev pub recursion : Statements
 recursion = (block (
     on 1 marker ∷
     on 2 (x.Def (function (codes "f") (param (codes "n") ∷ []) (block (
@@ -26,7 +26,7 @@ recursion_is_spent = refl
 recursion_gives : named_global (codes "X") recursion ≡ Some (codes "0")
 recursion_gives = refl
 
-abbrev super_call : Statements
+abbrev pub super_call : Statements
 super_call = (block (
     on 1 marker ∷
     on 2 (class (codes "A") None (block (
@@ -47,7 +47,7 @@ super_call_is_spent = refl
 super_call_gives : named_global (codes "X") super_call ≡ Some (codes "2")
 super_call_gives = refl
 
-abbrev key_error_caught : Statements
+abbrev pub key_error_caught : Statements
 key_error_caught = (block (
     on 1 marker ∷
     on 2 (try_or (block (
@@ -64,7 +64,7 @@ key_error_caught_is_spent = refl
 key_error_caught_gives : named_global (codes "X") key_error_caught ≡ Some (34 ∷ 39 ∷ 107 ∷ 39 ∷ 34 ∷ [])
 key_error_caught_gives = refl
 
-abbrev default_taken : Statements
+abbrev pub default_taken : Statements
 default_taken = (block (
     on 1 marker ∷
     on 2 (x.Def (function (codes "f") (param (codes "a") ∷ param_or (codes "b") (int 2) ∷ []) (block (

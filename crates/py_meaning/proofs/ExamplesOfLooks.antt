@@ -331,7 +331,7 @@ a_print = (block (
 a_print_is_an_effect : refusal a_print ≡ Some (3, Effect)
 a_print_is_an_effect = refl
 
-abbrev stored : Statements
+abbrev pub stored : Statements
 stored = (block (
     on 1 marker ∷
     on 2 (x.From (codes "__host__") (imported (codes "H") ∷ [])) ∷
@@ -343,7 +343,7 @@ stored = (block (
 stored_is_no_look : refusal stored ≡ None
 stored_is_no_look = refl
 
-abbrev passed_and_returned : Statements
+abbrev pub passed_and_returned : Statements
 passed_and_returned = (block (
     on 1 marker ∷
     on 2 (x.From (codes "__host__") (imported (codes "H") ∷ [])) ∷

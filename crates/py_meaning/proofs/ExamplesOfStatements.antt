@@ -38,7 +38,7 @@ second_marker_and_a_text_alone = (block (
 second_marker_and_a_text_alone_ends : ended 50000 second_marker_and_a_text_alone ≡ record { end = Finished 3; globals = ([]) }
 second_marker_and_a_text_alone_ends = refl
 
-abbrev texts_and_containers : Statements
+abbrev pub texts_and_containers : Statements
 texts_and_containers = (block (
     on 1 marker ∷
     on 2 (x.Assign (x.ToName (codes "A")) (x.Binary Add (text (codes "ab")) (text (codes "c")))) ∷

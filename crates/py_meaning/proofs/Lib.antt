@@ -11,6 +11,7 @@ mod ExamplesOfBodies
 mod ExamplesOfKinds
 mod ExamplesOfLooks
 mod ExamplesOfCosts
+mod ExamplesOfStanding
 pub mod Steps
 pub mod StepsOfOperators
 pub mod StepsOfTexts

@@ -1,6 +1,6 @@
 -- What the globals hold that defs, classes and imports bind: where they are bound, what the statement gives over these images.
 use Rattle.std.specs.Prelude.{◌≡◌, ℕ, true, if◌then◌else◌, List, [], ◌∷◌, codes, slice_get, Some, None}
-use Rattle.std.specs.List.{Contains, flat_map}
+use Rattle.std.specs.List.{Contains, list_all, flat_map}
 use Rattle.std.specs.Option.{option_and_then, option_map}
 use Rattle.std.specs.Str.{bytes_eq}
 use Rattle.py_tree.specs.Syntax as x
@@ -15,6 +15,7 @@ use Rattle.gradual_types.specs.Values.{Value}
 use Rattle.gradual_types.specs.States.{State, Variable, value_of}
 use Rattle.gradual_types.specs.Images.{Atom, atom_value}
 use Rattle.py_meaning.specs.Modules.{World, ModuleText, Loaded, FunctionIn, functions, written_name, image_at, is_own}
+use Rattle.py_meaning.specs.WellFormed.{IsWellFormed, value_stands}
 use Rattle.py_meaning.specs.Imports.{module_named, global_of_module, binds_nothing}
 
 -- a host slot as it is, or the atom in its place
@@ -64,3 +65,9 @@ pub record AreBound (w : World) (m : ℕ) (t : ModuleText) (xs : List Variable) 
 pub record AllBound (w : World) (s : State) : Type 0 where
   pub own : (m : ℕ) → (is_own w m ≡ true) → AreBound w m w.own s.globals
   pub images : (m : ℕ) (l : Loaded) → image_at w m ≡ Some l → AreBound w m (record { tree = l.tree; facts = l.image.facts }) l.image.globals
+
+-- a world, a state, and the values with which a run begins belong together
+pub record BelongTogether (w : World) (s : State) (begins : List Value) : Type 0 where
+  pub formed : IsWellFormed w s
+  pub bound : AllBound w s
+  pub values : list_all (value_stands w s) begins ≡ true

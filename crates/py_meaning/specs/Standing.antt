@@ -1,6 +1,6 @@
 -- When code stands for trees. Code is of any kind of which it is said what its blocks do: `Does b call s run` says that from the state s the
 -- block b comes to that run, where each call is answered so. Nothing here names a compiler or an instruction.
-use Rattle.std.specs.Prelude.{◌≡◌, ◌≤◌, ℕ, List, map, length, slice_get, Option, Some, None}
+use Rattle.std.specs.Prelude.{◌≡◌, ◌≤◌, ℕ, true, if◌then◌else◌, List, map, length, slice_get, Option, Some, None}
 use Rattle.std.specs.List.{Contains}
 use Rattle.std.specs.Option.{option_map}
 use Rattle.py_tree.specs.Syntax.{Text, Statements}
@@ -10,7 +10,7 @@ use Rattle.gradual_types.specs.declared.facts.Facts.{Facts}
 use Rattle.gradual_types.specs.Values.{Value}
 use Rattle.gradual_types.specs.States.{State, Variable}
 use Rattle.py_meaning.specs.Acts.{Run, Gives, Halts, ◌>>=◌}
-use Rattle.py_meaning.specs.Modules.{World, Setting, ModuleText, Loaded, KnownFunction, functions, function_of, text_of}
+use Rattle.py_meaning.specs.Modules.{World, Setting, ModuleText, Loaded, KnownFunction, functions, function_of, is_own, text_of}
 use Rattle.py_meaning.specs.Atoms.{Atoms, put_images}
 use Rattle.py_meaning.specs.Calls.{Oracle}
 use Rattle.py_meaning.specs.Runs.{body_of, body_setting, function_scope, result_of}
@@ -51,6 +51,10 @@ pub record Fits (local_names global_names : Option (List Text)) (s : State) : Ty
   pub locals : (names : List Text) → local_names ≡ Some names → names_in s.locals ≡ names
   pub globals : (names : List Text) → global_names ≡ Some names → names_in s.globals ≡ names
 
+-- a state has the globals of the module whose body is run
+abbrev pub own_globals : World → ℕ → Statements → Option (List Text)
+own_globals w m tree = if is_own w m then Some (globals tree) else None
+
 -- ---- worlds in which code is to do it
 
 abbrev pub given_globals : Option Loaded → Option (List Variable)
@@ -85,8 +89,9 @@ module _ (Block : Type 0) (Does : Block → Oracle → State → Run Value → T
   -- the blocks of a module do what its trees mean, over all images that agree with those of its need
   pub record StandsFor (m : ℕ) (t : ModuleText) (need : List ℕ) (images : List (Option Loaded)) (body_block : Block) (blocks : List Block) : Type 0 where
     pub as_many : length blocks ≡ length (functions t.tree)
-    pub body : (w : World) → Admits m t need images w → IsBlockOf None (Some (globals t.tree)) (body_job w m t.tree) body_block
-    pub each_function : (w : World) → Admits m t need images w → (n : ℕ) (f : KnownFunction) (b : Block) → function_of w m n ≡ Some f → slice_get blocks n ≡ Some b → IsBlockOf (Some (locals f.function)) None (function_job w m f) b
+    -- the body is run where the module is the own one
+    pub body : (w : World) → Admits m t need images w → is_own w m ≡ true → IsBlockOf None (Some (globals t.tree)) (body_job w m t.tree) body_block
+    pub each_function : (w : World) → Admits m t need images w → (n : ℕ) (f : KnownFunction) (b : Block) → function_of w m n ≡ Some f → slice_get blocks n ≡ Some b → IsBlockOf (Some (locals f.function)) (own_globals w m t.tree) (function_job w m f) b
 
   -- Of an image: its facts are those of its trees, and its code stands for them. Types come later: no tree has a fault of types, and no place
   -- has a type.

@@ -1,6 +1,6 @@
 -- When a world and a state belong together: what a value names is there, and an object holds what its kind has. No place has a type yet, so no
 -- place holds a primitive.
-use Rattle.std.specs.Prelude.{◌≡◌, ℕ, suc, pos, Bool, true, false, not, ◌&&◌, ◌||◌, ◌==◌, List, [], ◌∷◌, length, slice_get, Option, Some, None, is_none, is_some}
+use Rattle.std.specs.Prelude.{◌≡◌, ℕ, suc, pos, Bool, true, false, not, ◌&&◌, ◌||◌, ◌==◌, List, [], ◌∷◌, length, slice_get, Option, Some, None, is_none, is_some, map}
 use Rattle.std.specs.List.{list_all, list_any}
 use Rattle.py_tree.specs.Syntax.{Param, Statements}
 use Rattle.py_values.specs.Builtins.{text_methods, list_methods, dict_methods}
@@ -182,13 +182,18 @@ line_goes_on w c (first ∷ base ∷ rest) = same_class c first && (not (list_an
   same_lines (a ∷ as') (b ∷ bs) = same_class a b && same_lines as' bs
   same_lines as' bs = false
 
+abbrev pub all_stand : World → State → Bool
+all_stand w s =
+    is_free_home w w.home
+    && (list_all (content_stands w s) s.own
+    && (list_all (list_all (content_stands w s)) s.others
+    && (list_all (variable_stands w s) s.locals
+    && (list_all (variable_stands w s) s.globals
+    && (list_all (default_stands w s) s.defaults
+    && (list_all (image_stands w s) w.images
+    && list_all (value_stands w s) w.hosts))))))
+
 pub record IsWellFormed (w : World) (s : State) : Type 0 where
-  pub home : is_free_home w w.home ≡ true
-  pub own_objects : list_all (content_stands w s) s.own ≡ true
-  pub other_objects : list_all (list_all (content_stands w s)) s.others ≡ true
-  pub locals : list_all (variable_stands w s) s.locals ≡ true
-  pub globals : list_all (variable_stands w s) s.globals ≡ true
-  pub defaults : list_all (default_stands w s) s.defaults ≡ true
-  pub images : list_all (image_stands w s) w.images ≡ true
-  pub hosts : list_all (value_stands w s) w.hosts ≡ true
+  pub values : all_stand w s ≡ true
+  pub names : map (λ x. x.name) s.globals ≡ globals w.own.tree  -- each bound or unbound, in order
   pub lines : (c : ClassId) → is_some (class_facts w c) ≡ true → line_goes_on w c (line_of w c) ≡ true
