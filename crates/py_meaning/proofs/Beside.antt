@@ -8,7 +8,7 @@ use Rattle.gradual_types.specs.States.{State, Variable}
 use Rattle.py_meaning.specs.Acts.{Run}
 use Rattle.py_meaning.specs.Atoms.{Atoms, put_loaded, put_variable}
 use Rattle.py_meaning.specs.Calls.{Oracle}
-use Rattle.py_meaning.specs.Modules.{World, ModuleText, Loaded}
+use Rattle.py_meaning.specs.Modules.{World, Setting, ModuleText, Loaded}
 use Rattle.py_meaning.specs.Standing.{AreAlike, Admits, StandsFor, given_globals, with_atoms}
 use Rattle.py_meaning.specs.Worlds.{given_facts}
 
@@ -44,7 +44,7 @@ chained need a b c g h = record { facts = λ m i. g.facts m i ∙ h.facts m i; g
 admits : (m : ℕ) (t : ModuleText) (need : List ℕ) (images others : List (Option Loaded)) (w : World) → AreAlike need images others → Admits m t need others w → Admits m t need images w
 admits m t need images others w h a = record { text = a.text; atoms = a.atoms; alike = chained need _ _ _ (alike_with_atoms a.atoms need images others h) a.alike }
 
-pub stands_beside : (Block : Type 0) (Does : Block → Oracle → State → Run Value → Type 0) (m : ℕ) (t : ModuleText) (need : List ℕ) (images others : List (Option Loaded)) (b : Block) (bs : List Block)
+pub stands_beside : (Block : Type 0) (Does : Setting → Block → Oracle → State → Run Value → Type 0) (m : ℕ) (t : ModuleText) (need : List ℕ) (images others : List (Option Loaded)) (b : Block) (bs : List Block)
     → AreAlike need images others → StandsFor Block Does m t need images b bs → StandsFor Block Does m t need others b bs
 stands_beside Block Does m t need images others b bs h s = record {
   as_many = s.as_many;

@@ -127,7 +127,7 @@ calls_end_with_fuel w calls more m n values = (meanings w calls more m n values)
 
 pub bodies_end_with_fuel : BodiesEndWithFuel
 unfolding steps
-bodies_end_with_fuel w more m s = (execs_all (every.ticked (steps w (suc s.fuel))) (meanings w (suc s.fuel) more) (module_scope m) w.own.tree).by s (omega arith)
+bodies_end_with_fuel w more m s = (execs_all (every.ticked (steps w (suc s.fuel))) (meanings w (suc s.fuel) more) (module_scope m) None w.own.tree).by s (omega arith)
 
 -- ---- turns
 

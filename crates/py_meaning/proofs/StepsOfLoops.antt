@@ -39,7 +39,7 @@ module _ {w : World} {p q : Steps w} (t : Ticked p q) {back : Act (Unit {0})} (h
   pub turns : {body body' : Value → Act Flow} → ((x : Value) → Both p (body x) (body' x)) → {next next' : Act Flow} → Both p next next'
       → (x : Option Value) → Both q (turn back body next x) (turn back body' next' x)
   turns h hn None = q.gives On
-  turns h hn (Some x) = t.by (p.bind (h x) (λ ended. p.bind hb (λ a. agains p ended hn)))
+  turns h hn (Some x) = t.by (p.bind (h x) (λ ended. agains p ended (seq p hb hn)))
 
 module _ {w : World} (q : Steps w) {back : Act (Unit {0})} (hb : Kept q back) where
   pub whiles : {test test' : Act Bool} {body body' : Act Flow} → Both q test test' → Both q body body' → (budget : ℕ) → Both q (while_true back test body budget) (while_true back test' body' budget)

@@ -71,10 +71,6 @@ rescued ended clauses = ended
 abbrev pub passed_on : ℕ → Value → Act Flow
 passed_on line e = λ s. Halts (record s { line = line }) (Raised e)
 
--- in the body of a clause that has taken it
-abbrev pub catching : Setting → Value → Setting
-catching c e = record c { scope = record (c.scope) { caught = Some e } }
-
 abbrev pub bind_some : Setting → Option Text → Value → Act (Unit {0})
 bind_some c None e = done
 bind_some c (Some name) e = assign_name c name (From Dynamic) e

@@ -43,14 +43,13 @@ again Continued next = next
 again Broke next = give On
 again (Returned value) next = give (Returned value)
 
--- a turn over the next item, where there is one; behind it the loop is under way again, which is what `back` tells
+-- a turn over the next item, where there is one; before another the loop is under way again, which is what `back` tells
 abbrev pub turn : Act (Unit {0}) → (Value → Act Flow) → Act Flow → Option Value → Act Flow
 turn back body next None = give On
 turn back body next (Some x) = do
   tick
   ended ← body x
-  back
-  again ended next
+  again ended (back >> next)
 
 abbrev pub over_each : Act (Unit {0}) → (Value → Act Flow) → List Value → Act Flow
 over_each back body [] = give On
@@ -76,7 +75,7 @@ over_list w h n back body (suc turns) i = do
   turn back body (over_list w h n back body turns (suc i)) (listed_at i a)
 
 -- a dictionary of another size than at the start raises RuntimeError at the next step, also at the one that would end
-abbrev pub unless_resized : World → ℕ → Act Flow → Seen → Act Flow
+abbrev pub unless_resized : {A : Type 0} → World → ℕ → Act A → Seen → Act A
 unless_resized w size next (seen.Mapped h n es) = choose (length es == size) next (raise w kind.RuntimeError)
 unless_resized w size next other = next
 

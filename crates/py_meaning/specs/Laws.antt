@@ -77,7 +77,7 @@ abbrev pub CallsEndWithFuel : Type 0
 CallsEndWithFuel = (w : World) (calls more m n : ℕ) (values : List Value) (s : State) → s.fuel < calls → meaning w (calls + more) m n values s ≡ meaning w calls m n values s
 
 abbrev pub BodiesEndWithFuel : Type 0
-BodiesEndWithFuel = (w : World) (more m : ℕ) (s : State) → exec_all (body_setting w m) (meaning w (suc s.fuel + more)) w.own.tree s ≡ run_body w m s
+BodiesEndWithFuel = (w : World) (more m : ℕ) (s : State) → exec_all (body_setting w m) (meaning w (suc s.fuel + more)) None w.own.tree s ≡ run_body w m s
 
 abbrev pub NeverRaisesFuel : {A : Type 0} → Act A → Type 0
 NeverRaisesFuel act = (s : State) → (end_of (act s)).fuel ≤ s.fuel

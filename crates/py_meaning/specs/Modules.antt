@@ -37,7 +37,6 @@ pub record Scope : Type 0 where
   pub class : Option ℕ  -- of a method: the number of its class
   pub locals : Option (List Text)  -- of a function: its names
   pub result : PyType
-  pub caught : Option Value  -- the exception that the innermost except clause around has taken
 
 pub record Setting : Type 0 where
   pub world : World

@@ -39,7 +39,7 @@ back_in caller (Gives s value) = Gives (record s { locals = caller.locals; depth
 back_in caller (Halts s why) = Halts (record s { locals = caller.locals; depth = caller.depth }) why
 
 abbrev pub function_scope : ℕ → KnownFunction → Scope
-function_scope m f = record { «module» = m; class = f.class; locals = Some (locals f.function); result = f.signature.result; caught = None }
+function_scope m f = record { «module» = m; class = f.class; locals = Some (locals f.function); result = f.signature.result }
 
 abbrev pub body_of : Function → Statements
 body_of (x.Defined name params result body) = body
@@ -47,7 +47,7 @@ body_of (x.Defined name params result body) = body
 abbrev pub run_function : World → Oracle → ℕ → Option KnownFunction → List Value → Act Value
 run_function w call m None values = type_error w
 run_function w call m (Some f) values = λ s.
-    back_in s ((exec_all c call (body_of f.function) >>= result_of c) (record s { locals = opened_locals (locals f.function) values; depth = s.depth + 1 })) where
+    back_in s ((exec_all c call None (body_of f.function) >>= result_of c) (record s { locals = opened_locals (locals f.function) values; depth = s.depth + 1 })) where
       c : Setting
       c = record { world = w; scope = function_scope m f }
 
@@ -59,13 +59,13 @@ meaning w (suc calls) m n values = run_function w (meaning w calls) m (function_
 -- ---- the body of a module
 
 abbrev pub module_scope : ℕ → Scope
-module_scope m = record { «module» = m; class = None; locals = None; result = Dynamic; caught = None }
+module_scope m = record { «module» = m; class = None; locals = None; result = Dynamic }
 
 abbrev pub body_setting : World → ℕ → Setting
 body_setting w m = record { world = w; scope = module_scope m }
 
 abbrev pub run_body : World → ℕ → State → Run Flow
-run_body w m s = exec_all (body_setting w m) (meaning w (suc s.fuel)) w.own.tree s
+run_body w m s = exec_all (body_setting w m) (meaning w (suc s.fuel)) None w.own.tree s
 
 abbrev pub image_objects : Option Loaded → List Content
 image_objects None = []
@@ -97,7 +97,7 @@ body_start w fuel = start w (globals w.own.tree) 1 fuel
 -- ---- a call from outside
 
 abbrev pub outer_scope : Scope
-outer_scope = record { «module» = 0; class = None; locals = Some []; result = Dynamic; caught = None }
+outer_scope = record { «module» = 0; class = None; locals = Some []; result = Dynamic }
 
 abbrev pub outer_setting : World → Setting
 outer_setting w = record { world = w; scope = outer_scope }

@@ -1,11 +1,10 @@
--- When code stands for trees. Code is of any kind of which it is said what its blocks do: `Does b call s run` says that from the state s the
--- block b comes to that run, where each call is answered so. Nothing here names a compiler or an instruction.
-use Rattle.std.specs.Prelude.{◌≡◌, ◌≤◌, ℕ, true, if◌then◌else◌, List, map, length, slice_get, Option, Some, None}
+-- When code stands for trees. Code is of any kind of which it is said what its blocks do: `Does c b call s run` says that in the setting c the
+-- block b comes from the state s to that run, where each call is answered so. Nothing here names a compiler or an instruction.
+use Rattle.std.specs.Prelude.{◌≡◌, ◌≤◌, ℕ, true, List, length, slice_get, Option, Some, None}
 use Rattle.std.specs.List.{Contains}
 use Rattle.std.specs.Option.{option_map}
-use Rattle.py_tree.specs.Syntax.{Text, Statements}
+use Rattle.py_tree.specs.Syntax.{Statements}
 use Rattle.py_values.specs.declared.value.Home.TheVariants as home
-use Rattle.symbols.specs.Bindings.{globals, locals}
 use Rattle.gradual_types.specs.declared.facts.Facts.{Facts}
 use Rattle.gradual_types.specs.Values.{Value}
 use Rattle.gradual_types.specs.States.{State, Variable}
@@ -25,15 +24,15 @@ Job = Oracle → State → Run Value
 
 -- the body of a module, which gives None
 abbrev pub body_job : World → ℕ → Statements → Job
-body_job w m tree call = exec_all (body_setting w m) call tree >>= result_of (body_setting w m)
+body_job w m tree call = exec_all (body_setting w m) call None tree >>= result_of (body_setting w m)
 
 abbrev pub function_setting : World → ℕ → KnownFunction → Setting
 function_setting w m f = record { world = w; scope = function_scope m f }
 
 abbrev pub function_job : World → ℕ → KnownFunction → Job
-function_job w m f call = exec_all (function_setting w m f) call (body_of f.function) >>= result_of (function_setting w m f)
+function_job w m f call = exec_all (function_setting w m f) call None (body_of f.function) >>= result_of (function_setting w m f)
 
--- ---- what is asked of the answers and of the state
+-- ---- what is asked of the answers
 
 abbrev pub fuel_left : Run Value → ℕ
 fuel_left (Gives s value) = s.fuel
@@ -42,18 +41,6 @@ fuel_left (Halts s why) = s.fuel
 -- a call makes no fuel
 abbrev pub MakesNoFuel : Oracle → Type 0
 MakesNoFuel call = (m n : ℕ) (values : List Value) (s : State) → fuel_left (call m n values s) ≤ s.fuel
-
-abbrev pub names_in : List Variable → List Text
-names_in xs = map (λ x. x.name) xs
-
--- the state has the names of the scope
-pub record Fits (local_names global_names : Option (List Text)) (s : State) : Type 0 where
-  pub locals : (names : List Text) → local_names ≡ Some names → names_in s.locals ≡ names
-  pub globals : (names : List Text) → global_names ≡ Some names → names_in s.globals ≡ names
-
--- a state has the globals of the module whose body is run
-abbrev pub own_globals : World → ℕ → Statements → Option (List Text)
-own_globals w m tree = if is_own w m then Some (globals tree) else None
 
 -- ---- worlds in which code is to do it
 
@@ -82,16 +69,16 @@ pub record Admits (m : ℕ) (t : ModuleText) (need : List ℕ) (images : List (O
 abbrev pub AreFactsOf : List (Option Loaded) → ℕ → Statements → Facts → Type 0
 AreFactsOf images m tree facts = facts ≡ body_facts (import_mode (home.Module m)) images facts.name m tree
 
-module _ (Block : Type 0) (Does : Block → Oracle → State → Run Value → Type 0) where
-  pub record IsBlockOf (local_names global_names : Option (List Text)) (job : Job) (b : Block) : Type 0 where
-    pub does : (call : Oracle) → MakesNoFuel call → (s : State) → Fits local_names global_names s → Does b call s (job call s)
+module _ (Block : Type 0) (Does : Setting → Block → Oracle → State → Run Value → Type 0) where
+  pub record IsBlockOf (c : Setting) (job : Job) (b : Block) : Type 0 where
+    pub does : (call : Oracle) → MakesNoFuel call → (s : State) → Does c b call s (job call s)
 
   -- the blocks of a module do what its trees mean, over all images that agree with those of its need
   pub record StandsFor (m : ℕ) (t : ModuleText) (need : List ℕ) (images : List (Option Loaded)) (body_block : Block) (blocks : List Block) : Type 0 where
     pub as_many : length blocks ≡ length (functions t.tree)
     -- the body is run where the module is the own one
-    pub body : (w : World) → Admits m t need images w → is_own w m ≡ true → IsBlockOf None (Some (globals t.tree)) (body_job w m t.tree) body_block
-    pub each_function : (w : World) → Admits m t need images w → (n : ℕ) (f : KnownFunction) (b : Block) → function_of w m n ≡ Some f → slice_get blocks n ≡ Some b → IsBlockOf (Some (locals f.function)) (own_globals w m t.tree) (function_job w m f) b
+    pub body : (w : World) → Admits m t need images w → is_own w m ≡ true → IsBlockOf (body_setting w m) (body_job w m t.tree) body_block
+    pub each_function : (w : World) → Admits m t need images w → (n : ℕ) (f : KnownFunction) (b : Block) → function_of w m n ≡ Some f → slice_get blocks n ≡ Some b → IsBlockOf (function_setting w m f) (function_job w m f) b
 
   -- Of an image: its facts are those of its trees, and its code stands for them. Types come later: no tree has a fault of types, and no place
   -- has a type.
