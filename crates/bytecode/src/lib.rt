@@ -1,0 +1,4 @@
+//! The code of bodies and functions: its instructions, and what a block of them does, where calls are answered from outside.
+#![tactic(auto)]
+
+pub mod instr;
