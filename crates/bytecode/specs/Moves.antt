@@ -19,7 +19,7 @@ use Rattle.py_meaning.specs.Boundaries.{From}
 use Rattle.py_meaning.specs.Attributes.{get_attribute, set_attribute}
 use Rattle.py_meaning.specs.Subscripts.{get_item, set_item}
 use Rattle.py_meaning.specs.Iterables.{gather}
-use Rattle.py_meaning.specs.Calls.{own_class}
+use Rattle.py_meaning.specs.Calls.{own_class, boxed}
 use Rattle.py_meaning.specs.Expressions.{made_dict}
 use Rattle.py_meaning.specs.Targets.{augmented}
 use Rattle.py_meaning.specs.Exceptions.{raised_again, takes}
@@ -185,6 +185,7 @@ act c (i.Augment operator) pc st around s = top_two st (λ a b st. Pushes st (au
 act c (i.Compare operator) pc st around s = top_two st (λ a b st. Pushes st (comparison c.world operator a b s))
 act c (i.Is negated constant) pc st around s = top st (λ x st. Pushes st ((look c.world x >>= λ a. by_table c.world (op.Is negated (operand a) constant)) s))
 act c i.Not pc st around s = top st (λ x st. Pushes st (opposite c.world x s))
+act c i.Box pc st around s = top st (λ x st. To (pc + 1) (boxed x ∷ st) around s)
 act c (i.GetAttribute name) pc st around s = top st (λ x st. Pushes st (get_attribute c.world x name s))
 act c (i.SetAttribute name) pc st around s = top_two st (λ value x st. Goes st around (set_attribute c x name (From Dynamic) value s))
 act c i.GetItem pc st around s = top_two st (λ x index st. Pushes st (get_item c.world x index s))

@@ -78,6 +78,8 @@ pub enum Instr {
         constant: Const,
     },
     Not,
+    /// Makes a primitive an int or a bool.
+    Box,
     GetAttribute(Text),
     /// Takes an object, which is the top, and the value that its attribute is set to.
     SetAttribute(Text),
