@@ -1,5 +1,5 @@
 -- The code of `def`, of class statements and of imports.
-use Rattle.std.specs.Prelude.{ℕ, suc, ◌+◌, if◌then◌else◌, List, [], ◌∷◌, ◌++◌, length, Option, Some, None}
+use Rattle.std.specs.Prelude.{ℕ, suc, ◌+◌, if◌then◌else◌, List, [], ◌∷◌, ◌++◌, Option, Some, None}
 use Rattle.std.specs.List.{flat_map}
 use Rattle.py_tree.specs.Syntax as x
 use Rattle.py_tree.specs.Syntax.{Text, Expression, Param, Kind, Statements, Function, ClassDef}
@@ -110,6 +110,13 @@ class_code names h pc (x.Classed name base body) =
 abbrev pub import_code : Names → Handler → Import → List Cell
 import_code names h import = if is_marker_import import then [] else cell h (i.ImportModule import.name (variable_of names (alias_or import.alias import.name))) ∷ []
 
+abbrev pub import_end : ℕ → Import → ℕ
+import_end pc import = if is_marker_import import then pc else pc + 1
+
+abbrev pub imports_end : ℕ → List Import → ℕ
+imports_end pc [] = pc
+imports_end pc (import ∷ imports) = imports_end (import_end pc import) imports
+
 abbrev pub imports_code : Names → Handler → List Import → List Cell
 imports_code names h imports = flat_map (import_code names h) imports
 
@@ -117,6 +124,10 @@ abbrev pub member_import_code : Names → Handler → Text → Import → List C
 member_import_code names h from import =
     if binds_nothing from then []
     else cell h (i.ImportMember (record { «module» = from; name = import.name; variable = variable_of names (alias_or import.alias import.name) })) ∷ []
+
+abbrev pub member_imports_end : ℕ → Text → List Import → ℕ
+member_imports_end pc from [] = pc
+member_imports_end pc from (import ∷ imports) = member_imports_end (if binds_nothing from then pc else pc + 1) from imports
 
 abbrev pub member_imports_code : Names → Handler → Text → List Import → List Cell
 member_imports_code names h from imports = flat_map (member_import_code names h from) imports

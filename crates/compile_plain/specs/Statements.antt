@@ -1,7 +1,7 @@
 -- The code of statements, and of whole bodies.
-use Rattle.std.specs.Prelude.{ℕ, ◌+◌, List, [], ◌∷◌, ◌++◌, length, Option, Some, None}
+use Rattle.std.specs.Prelude.{ℕ, ◌+◌, List, [], ◌∷◌, ◌++◌, Option, Some, None}
 use Rattle.py_tree.specs.Syntax as x
-use Rattle.py_tree.specs.Syntax.{Kind, Statement, Statements, Branch, Branches, Clause, Clauses}
+use Rattle.py_tree.specs.Syntax.{Kind, Statements, Branches, Clauses}
 use Rattle.bytecode.specs.declared.instr.Cell.{Cell}
 use Rattle.bytecode.specs.declared.instr.Instr.TheVariants as i
 use Rattle.compile_plain.specs.declared.targets.Targets.{Targets}
@@ -9,7 +9,7 @@ use Rattle.compile_plain.specs.Names.{Names, line_in, maybe_variable}
 use Rattle.compile_plain.specs.Cells.{cell, in_clauses, in_try, in_while, in_for, line_end, line_code}
 use Rattle.compile_plain.specs.Expressions.{expr_end, expr_code}
 use Rattle.compile_plain.specs.Assignments.{assign_end, assign_code, augment_end, augment_code}
-use Rattle.compile_plain.specs.Definitions.{def_end, def_code, class_end, class_code, imports_code, member_imports_code}
+use Rattle.compile_plain.specs.Definitions.{def_end, def_code, class_end, class_code, imports_end, imports_code, member_imports_end, member_imports_code}
 
 -- ---- ends
 
@@ -22,8 +22,8 @@ abbrev mutual
   kind_end names line pc (x.Return (Some e)) = expr_end names pc e + 1
   kind_end names line pc (x.Raise None) = pc + 1
   kind_end names line pc (x.Raise (Some e)) = expr_end names pc e + 1 + 1
-  kind_end names line pc (x.Imports imports) = pc + length (imports_code names (record { place = None; clauses = 0; loops = 0 }) imports)
-  kind_end names line pc (x.From from imports) = pc + length (member_imports_code names (record { place = None; clauses = 0; loops = 0 }) from imports)
+  kind_end names line pc (x.Imports imports) = imports_end pc imports
+  kind_end names line pc (x.From from imports) = member_imports_end pc from imports
   kind_end names line pc (x.Eval e) = expr_end names pc e + 1
   kind_end names line pc (x.Assign t e) = assign_end names (expr_end names pc e) t
   kind_end names line pc (x.Annotate t kind None) = pc
