@@ -45,7 +45,10 @@ arguments (suc n) names (value ∷ values) = argument None value ∷ arguments n
 
 -- a call behind its fuel of 1
 abbrev pub ask_call : World → Value → List Argument → Act Calling
-ask_call w callee args = tick >> look w callee >>= λ a. give (Called a args)
+ask_call w callee args = do
+  tick
+  a ← look w callee
+  give (Called a args)
 
 -- the exception that a `raise` of this value raises
 abbrev pub ask_exception : World → Value → Seen → Act Calling
@@ -66,4 +69,6 @@ is_receiver w name class value = do
   done
 
 abbrev pub ask_base : World → ClassId → Text → Value → List Argument → Act Calling
-ask_base w class name receiver args = tick >> give (Reached class receiver args (base_method w class name))
+ask_base w class name receiver args = do
+  tick
+  give (Reached class receiver args (base_method w class name))

@@ -17,6 +17,10 @@ use Rattle.compile_plain.proofs.Comes.{Meets, meets_then, meets_any}
 abbrev pub values_of : List Argument → List Value
 values_of args = map (λ a. a.value) args
 
+pub values_joined : (a b : List Argument) → values_of (a ++ b) ≡ values_of a ++ values_of b
+values_joined [] b = refl
+values_joined (x ∷ a) b = ap (λ l. x.value ∷ l) (values_joined a b)
+
 -- so many arguments without a name
 abbrev pub ArePositional : ℕ → List Argument → Type 0
 ArePositional zero [] = Unit {0}

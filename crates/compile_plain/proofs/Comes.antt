@@ -10,8 +10,9 @@ use Rattle.py_meaning.specs.Calls.{Oracle}
 use Rattle.bytecode.specs.declared.instr.Cell.{Cell}
 use Rattle.bytecode.specs.declared.instr.Instr.{Instr}
 use Rattle.bytecode.specs.declared.instr.Handler.{Handler}
+use Rattle.bytecode.specs.Callings.{Calling}
 use Rattle.bytecode.specs.Moves.{Open, Move, pops, act, left_by, unbound_by}
-use Rattle.bytecode.specs.Blocks.{Config, At, Over, thrown, after, going, pushing, testing, land, run_cell, Leads, here, next}
+use Rattle.bytecode.specs.Blocks.{Config, At, Over, thrown, after, going, pushing, testing, asking, land, run_cell, Leads, here, next}
 use Rattle.compile_plain.specs.declared.targets.Targets.{Targets}
 use Rattle.compile_plain.specs.Cells.{cell, line_end, line_code}
 use Rattle.compile_plain.proofs.Places.{HasAt}
@@ -98,6 +99,13 @@ module _ (c : Setting) (call : Oracle) (code : List Cell) where
       → Leads c call code (land c call h pc around (then' vs st)) (after go out r) → Comes (At pc (onto vs st) around s) go out r
   takes_all {A} {pc} {around} {s} {h} {instr} {go} {out} {r} vs st n then' e long is l =
       acts e (subst (λ m. Leads c call code (land c call h pc around m) (after go out r)) (sym (is ∙ pops_all vs st n then' long)) l)
+
+  -- a call is asked for behind a step, and its answer is pushed
+  pub asks_both : {A : Type 0} {p : ℕ} {st : List Value} {around : Open} {out : State → Halt → Config} {f : A → Act Calling} {g : A → Act Value} (r : Run A)
+      → ((a : A) (t : State) → Leads c call code (after (asking c call out p st around) out (f a t)) (after (pushing p st around) out (g a t)))
+      → Leads c call code (after (asking c call out p st around) out (and_then r f)) (after (pushing p st around) out (and_then r g))
+  asks_both (Gives t a) i = i a t
+  asks_both (Halts t why) i = here
 
   -- behind a test
   pub picks : {A : Type 0} {p q : ℕ} {st st' : List Value} {around : Open} {go : A → State → Config} {out : State → Halt → Config} (b : Bool) (m n : Act A) (s : State)

@@ -1,3 +1,5 @@
 pub mod Places
 pub mod Comes
 pub mod Sites
+pub mod ArgumentBlocks
+pub mod ExpressionBlocks
