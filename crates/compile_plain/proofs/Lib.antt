@@ -3,3 +3,5 @@ pub mod Comes
 pub mod Sites
 pub mod ArgumentBlocks
 pub mod ExpressionBlocks
+pub mod AssignmentBlocks
+pub mod DefinitionBlocks

@@ -38,7 +38,7 @@ use Rattle.compile_plain.specs.Names.{Names, place_in, load_builtin, load_global
 same_texts : (a b : Text) → bytes_eq a b ≡ true → a ≡ b
 same_texts a b e = (bytes_eq-Decides a b).0 e
 
-position_more : {A : Type 0} (p : A → Bool) (a : A) (rest : List A) → position p (a ∷ rest) ≡ (if p a then Some 0 else option_map suc (position p rest))
+pub position_more : {A : Type 0} (p : A → Bool) (a : A) (rest : List A) → position p (a ∷ rest) ≡ (if p a then Some 0 else option_map suc (position p rest))
 position_more {A} p a rest = by (p a) (ltb (position_or_len p rest) (length rest)) refl where
   by : (b l : Bool) → ltb (position_or_len p rest) (length rest) ≡ l
       → cond (ltb (cond b 0 (suc (position_or_len p rest))) (suc (length rest))) (Some (cond b 0 (suc (position_or_len p rest)))) None
