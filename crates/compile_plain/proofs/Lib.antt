@@ -5,3 +5,7 @@ pub mod ArgumentBlocks
 pub mod ExpressionBlocks
 pub mod AssignmentBlocks
 pub mod DefinitionBlocks
+pub mod LoopBlocks
+pub mod ClauseBlocks
+pub mod StatementBlocks
+pub mod Whole

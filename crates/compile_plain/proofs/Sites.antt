@@ -21,6 +21,7 @@ use Rattle.py_meaning.specs.Acts.{Act}
 use Rattle.py_meaning.specs.Modules.{World, Setting, ModuleText, text_of}
 use Rattle.py_meaning.specs.Names.{is_local, is_global, read_local, read_global, read_special, read_builtin, read_name, set_name}
 use Rattle.py_meaning.specs.Calls.{Oracle}
+use Rattle.py_meaning.specs.Exceptions.{unbind}
 use Rattle.py_meaning.specs.Definitions.{set_line, function_number, class_number}
 use Rattle.py_meaning.specs.Expressions.{static_name, form_of}
 use Rattle.bytecode.specs.declared.instr.Cell.{Cell}
@@ -28,10 +29,10 @@ use Rattle.bytecode.specs.declared.instr.Handler.{Handler}
 use Rattle.bytecode.specs.declared.instr.Instr.{Instr}
 use Rattle.bytecode.specs.declared.instr.Instr.TheVariants as i
 use Rattle.bytecode.specs.declared.instr.Variable.TheVariants.{Local, Global, Named}
-use Rattle.bytecode.specs.Scopes.{names_of_scope, name_at, set}
-use Rattle.bytecode.specs.Moves.{Open, act, at_line}
+use Rattle.bytecode.specs.Scopes.{names_of_scope, name_at, set, with_variable}
+use Rattle.bytecode.specs.Moves.{Open, act, at_line, unbound}
 use Rattle.bytecode.specs.Blocks.{thrown, after, pushing, land}
-use Rattle.compile_plain.specs.Names.{Names, place_in, load_builtin, load_global, load_local, load, variable_of, line_in, static_in, form_in, function_place, class_place}
+use Rattle.compile_plain.specs.Names.{Names, place_in, numbered, maybe_variable, load_builtin, load_global, load_local, load, variable_of, line_in, static_in, form_in, function_place, class_place}
 
 -- ---- names by their numbers
 
@@ -108,11 +109,23 @@ module _ (w : World) (m : ℕ) (t : ModuleText) (text : text_of w m ≡ Some t) 
   pub sets : (locals : Option (List Text)) (name : Text) (value : Option Value) (s : State)
       → set (site w m class locals result) (variable_of (names_at t class locals) name) value s ≡ set_name (site w m class locals result) name value s
   sets None name value s = by (place_in (globals t.tree) name) (placed name (globals t.tree)) where
-    by : (o : Option ℕ) → Placed name (globals t.tree) o → _ ≡ _
+    by : (o : Option ℕ) → Placed name (globals t.tree) o → set (site w m class None result) (numbered Global name o) value s ≡ set_name (site w m class None result) name value s
     by None p = refl
     by (Some n) p = rw text (rw p.1 refl)
   sets (Some names) name value s = by (place_in names name) (placed name names) where
-    by : (o : Option ℕ) → Placed name names o → _ ≡ _
+    by : (o : Option ℕ) → Placed name names o → set (site w m class (Some names) result) (numbered Local name o) value s ≡ set_name (site w m class (Some names) result) name value s
+    by None p = refl
+    by (Some n) p = rw p.1 refl
+
+  pub unsets : (locals : Option (List Text)) (name : Option Text) (s : State)
+      → unbound (site w m class locals result) (maybe_variable (names_at t class locals) name) s ≡ unbind (site w m class locals result) name s
+  unsets locals None s = refl
+  unsets None (Some name) s = by (place_in (globals t.tree) name) (placed name (globals t.tree)) where
+    by : (o : Option ℕ) → Placed name (globals t.tree) o → with_variable (site w m class None result) (numbered Global name o) None s ≡ unbind (site w m class None result) (Some name) s
+    by None p = refl
+    by (Some n) p = rw text (rw p.1 refl)
+  unsets (Some names) (Some name) s = by (place_in names name) (placed name names) where
+    by : (o : Option ℕ) → Placed name names o → with_variable (site w m class (Some names) result) (numbered Local name o) None s ≡ unbind (site w m class (Some names) result) (Some name) s
     by None p = refl
     by (Some n) p = rw p.1 refl
 
