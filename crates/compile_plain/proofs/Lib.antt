@@ -9,3 +9,4 @@ pub mod LoopBlocks
 pub mod ClauseBlocks
 pub mod StatementBlocks
 pub mod Whole
+pub mod Stands

@@ -4,3 +4,4 @@ pub mod Expressions
 pub mod Assignments
 pub mod Definitions
 pub mod Statements
+pub mod Standing
