@@ -1,5 +1,5 @@
 -- More calls or turns than there is fuel change nothing: the actions do the same from every state with fuel below a bound.
-use Rattle.std.proofs.Common.{arith, ap, subst, ◌∙◌}
+use Rattle.std.proofs.Common.{None, arith, ap, subst, ◌∙◌}
 use Rattle.std.proofs.lemmas.Bool.{leb-true}
 use Rattle.std.specs.Prelude.{◌≡◌, refl, ℕ, zero, suc, ◌+◌, ◌-◌, ◌<◌, ◌≤◌, List, Option, Some, Bool, true, false, if◌then◌else◌, nat_le}
 use Rattle.py_tree.specs.Syntax.{Text}

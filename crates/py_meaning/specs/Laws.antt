@@ -1,5 +1,5 @@
 -- What holds of all runs: of functions, of the bodies of modules, and of calls from outside.
-use Rattle.std.specs.Prelude.{◌≡◌, ◌≢◌, ℕ, suc, ◌+◌, ◌^◌, ◌<◌, ◌≤◌, List, length, ◌++◌, Bool, Option}
+use Rattle.std.specs.Prelude.{◌≡◌, ◌≢◌, ℕ, suc, ◌+◌, ◌^◌, ◌<◌, ◌≤◌, List, length, ◌++◌, Bool, Option, None}
 use Rattle.py_tree.specs.Syntax.{Text}
 use Rattle.py_values.specs.declared.value.Home.{Home}
 use Rattle.py_values.specs.declared.value.Home.TheVariants as home
