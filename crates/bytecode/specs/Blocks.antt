@@ -2,7 +2,7 @@
 use Rattle.std.specs.Prelude.{ℕ, ◌+◌, true, false, List, [], ◌∷◌, ◌++◌, Bool, Option, Some, None, slice_get}
 use Rattle.gradual_types.specs.Values.{Value}
 use Rattle.gradual_types.specs.States.{State}
-use Rattle.py_meaning.specs.Acts.{Act, Run, Gives, Halts, Halt, Raised, tick}
+use Rattle.py_meaning.specs.Acts.{Run, Gives, Halts, Halt, Raised, tick}
 use Rattle.py_meaning.specs.Modules.{Setting}
 use Rattle.py_meaning.specs.Calls.{Oracle}
 use Rattle.bytecode.specs.declared.instr.Handler.{Handler}

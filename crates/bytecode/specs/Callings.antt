@@ -1,5 +1,5 @@
 -- Calls that code asks for, and what answers them.
-use Rattle.std.specs.Prelude.{ℕ, zero, suc, drop, List, [], ◌∷◌, codes, Option, Some, None}
+use Rattle.std.specs.Prelude.{ℕ, zero, suc, drop, List, [], ◌∷◌, Option, Some, None}
 use Rattle.py_tree.specs.Syntax.{Text}
 use Rattle.py_values.specs.declared.class_id.ClassId.{ClassId}
 use Rattle.gradual_types.specs.declared.py_type.PyType.TheVariants.{Dynamic}
@@ -11,7 +11,7 @@ use Rattle.py_meaning.specs.Looks as seen
 use Rattle.py_meaning.specs.Looks.{Seen, look, type_error}
 use Rattle.py_meaning.specs.Boundaries.{From}
 use Rattle.py_meaning.specs.Arguments.{Argument}
-use Rattle.py_meaning.specs.Calls.{Oracle, construct, own_class, is_instance, found_or_init, reached}
+use Rattle.py_meaning.specs.Calls.{Oracle, construct, is_instance, found_or_init, reached}
 use Rattle.py_meaning.specs.Expressions.{called}
 
 pub data Calling : Type 0 where

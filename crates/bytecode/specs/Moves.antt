@@ -1,7 +1,6 @@
 -- What each instruction does.
-use Rattle.std.specs.Prelude.{ℕ, zero, suc, ◌+◌, ◌*◌, ◌==◌, true, false, List, [], ◌∷◌, length, Bool, Option, Some, None}
+use Rattle.std.specs.Prelude.{ℕ, zero, suc, ◌+◌, ◌*◌, ◌==◌, List, [], ◌∷◌, length, Bool, Option, Some, None}
 use Rattle.std.specs.Option.{option_map}
-use Rattle.py_tree.specs.Syntax.{Text}
 use Rattle.py_values.specs.declared.class_id.ClassId.{ClassId}
 use Rattle.py_values.specs.declared.class_id.ClassId.TheVariants as id
 use Rattle.py_values.specs.declared.exception.ExcKind.TheVariants as kind
@@ -22,7 +21,7 @@ use Rattle.py_meaning.specs.Iterables.{gather}
 use Rattle.py_meaning.specs.Calls.{own_class, boxed}
 use Rattle.py_meaning.specs.Expressions.{made_dict}
 use Rattle.py_meaning.specs.Targets.{augmented}
-use Rattle.py_meaning.specs.Exceptions.{raised_again, takes}
+use Rattle.py_meaning.specs.Exceptions.{takes}
 use Rattle.py_meaning.specs.Definitions.{set_default, class_value}
 use Rattle.py_meaning.specs.Imports.{module_named, taken}
 use Rattle.bytecode.specs.declared.instr.Variable.{Variable}
