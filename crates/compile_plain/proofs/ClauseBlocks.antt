@@ -146,9 +146,9 @@ module _ (w : World) (m : ℕ) (t : ModuleText) (text : text_of w m ≡ Some t) 
   abbrev caught : Value → ℕ → Option Variable → Caught
   caught e raised x = record { exception = e; line = raised; variable = x }
 
-  any_out : {go : Unit {0} → State → Config} {out out' : State → Halt → Config} (r : Run (Unit {0})) → (y : State) × (r ≡ Gives y tt) → Leads c call code (after go out r) (after go out' r)
-  any_out (Gives y tt) b = here
-  any_out (Halts y why) b = cc (b.1)
+  any_out : (go : Unit {0} → State → Config) (out out' : State → Halt → Config) (r : Run (Unit {0})) → (y : State) × (r ≡ Gives y tt) → Leads c call code (after go out r) (after go out' r)
+  any_out go out out' (Gives y u) b = here
+  any_out go out out' (Halts y why) b = cc (b.1)
 
   -- it raises nothing
   binds : (name : Option Text) (e : Value) (s : State) → (y : State) × (bind_some c name e s ≡ Gives y tt)
@@ -156,13 +156,13 @@ module _ (w : World) (m : ℕ) (t : ModuleText) (text : text_of w m ≡ Some t) 
   binds (Some name) e s = binds_name locals name (Some e) s where
     binds_name : (locals : Option (List Text)) (name : Text) (value : Option Value) (s : State) → (y : State) × (set_name (site w m class locals result) name value s ≡ Gives y tt)
     binds_name None name value s = (_, refl)
-    binds_name (Some names) name value s = (_, refl)
+    binds_name (Some ns) name value s = (_, refl)
 
   names_do : {out : State → Halt → Config} (pc raised : ℕ) (around : Open) (s : State) (h : Handler) (e : Value) (name : Option Text) → slice_get code pc ≡ Some (cell h (i.Take (maybe_variable names name)))
       → Comes c call code (At pc [] (holding (caught e raised None) around) s) (going (pc + 1) [] (holding (caught e raised (maybe_variable names name)) around)) out (bind_some c name e s)
   names_do {out} pc raised around s h e name at =
       acts c call code at (subst (λ r. Leads c call code (after (going (pc + 1) [] (holding (caught e raised (maybe_variable names name)) around)) (thrown c h (holding (caught e raised None) around)) r)
-      (after (going (pc + 1) [] (holding (caught e raised (maybe_variable names name)) around)) out (bind_some c name e s))) (sym (bound_some name e s)) (any_out (bind_some c name e s) (binds name e s)))
+      (after (going (pc + 1) [] (holding (caught e raised (maybe_variable names name)) around)) out (bind_some c name e s))) (sym (bound_some name e s)) (any_out _ _ _ (bind_some c name e s) (binds name e s)))
 
   -- a clause that takes it: `end` is the place behind its body
   pub taken_does : (k : Targets) (around : Open) (release pc end raised : ℕ) (e : Value) (name : Option Text) (body : Act Flow) (s : State)

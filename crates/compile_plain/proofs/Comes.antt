@@ -101,11 +101,11 @@ module _ (c : Setting) (call : Oracle) (code : List Cell) where
       acts e (subst (λ m. Leads c call code (land c call h pc around m) (after go out r)) (sym (is ∙ pops_all vs st n then' long)) l)
 
   -- a call is asked for behind a step, and its answer is pushed
-  pub asks_both : {A : Type 0} {p : ℕ} {st : List Value} {around : Open} {out : State → Halt → Config} {f : A → Act Calling} {g : A → Act Value} (r : Run A)
+  pub asks_both : {A : Type 0} (p : ℕ) (st : List Value) (around : Open) (out : State → Halt → Config) (f : A → Act Calling) (g : A → Act Value) (r : Run A)
       → ((a : A) (t : State) → Leads c call code (after (asking c call out p st around) out (f a t)) (after (pushing p st around) out (g a t)))
       → Leads c call code (after (asking c call out p st around) out (and_then r f)) (after (pushing p st around) out (and_then r g))
-  asks_both (Gives t a) i = i a t
-  asks_both (Halts t why) i = here
+  asks_both p st around out f g (Gives t a) i = i a t
+  asks_both p st around out f g (Halts t why) i = here
 
   -- behind a test
   pub picks : {A : Type 0} {p q : ℕ} {st st' : List Value} {around : Open} {go : A → State → Config} {out : State → Halt → Config} (b : Bool) (m n : Act A) (s : State)

@@ -79,18 +79,18 @@ module _ (w : World) (m : ℕ) (t : ModuleText) (text : text_of w m ≡ Some t) 
     abbrev Goes : ℕ → List Cell → ℕ → Act (Unit {0}) → Type 0
     Goes pc cells q act = (s : State) → HasAt code pc cells → Comes c call code (At pc st around s) (going q st around) (thrown c h around) (act s)
 
-    mutual
-      defaults_do : (function : ℕ) (signature : Signature) (n : ℕ) (ps : List Param) (pc : ℕ) → Goes pc (def.defaults_code names h function n pc ps) (def.defaults_end names pc ps) (set_defaults c call function signature n ps)
-      defaults_do function signature n [] pc s has = record { by = here }
-      defaults_do function signature n (p ∷ ps) pc s has = default_does function signature n p.name p.kind p.default ps pc s has
+    default_does : (function : ℕ) (signature : Signature) (n : ℕ) (name : Text) (kind : Option Expression) (o : Option Expression) (ps : List Param) (pc : ℕ)
+        → ((q : ℕ) → Goes q (def.defaults_code names h function (suc n) q ps) (def.defaults_end names q ps) (set_defaults c call function signature (suc n) ps))
+        → Goes pc (def.default_code names h function n pc o ++ def.defaults_code names h function (suc n) (def.default_end names pc o) ps) (def.defaults_end names (def.default_end names pc o) ps)
+          (set_defaults c call function signature n (record { name = name; kind = kind; default = o } ∷ ps))
+    default_does function signature n name kind None ps pc rest s has = rest pc s has
+    default_does function signature n name kind (Some e) ps pc rest s has =
+        then_on_comes c call code _ (peel w m t text class locals result call code h e pc st around s _ (has_front code pc (def.default_code names h function n pc (Some e)) _ has) (λ a y has'. acts c call code has'.0 here)) (λ y.
+        rest (expr_end names pc e + 1) y (has_behind code _ (default_length names h function n (Some e) pc) has))
 
-      default_does : (function : ℕ) (signature : Signature) (n : ℕ) (name : Text) (kind : Option Expression) (o : Option Expression) (ps : List Param) (pc : ℕ)
-          → Goes pc (def.default_code names h function n pc o ++ def.defaults_code names h function (suc n) (def.default_end names pc o) ps) (def.defaults_end names (def.default_end names pc o) ps)
-            (set_defaults c call function signature n (record { name = name; kind = kind; default = o } ∷ ps))
-      default_does function signature n name kind None ps pc s has = defaults_do function signature (suc n) ps pc s has
-      default_does function signature n name kind (Some e) ps pc s has =
-          then_on_comes c call code _ (peel w m t text class locals result call code h e pc st around s _ (has_front code pc (def.default_code names h function n pc (Some e)) _ has) (λ a y has'. acts c call code has'.0 here)) (λ y.
-          defaults_do function signature (suc n) ps (expr_end names pc e + 1) y (has_behind code _ (default_length names h function n (Some e) pc) has))
+    defaults_do : (function : ℕ) (signature : Signature) (n : ℕ) (ps : List Param) (pc : ℕ) → Goes pc (def.defaults_code names h function n pc ps) (def.defaults_end names pc ps) (set_defaults c call function signature n ps)
+    defaults_do function signature n [] pc s has = record { by = here }
+    defaults_do function signature n (p ∷ ps) pc s has = default_does function signature n p.name p.kind p.default ps pc (λ q. defaults_do function signature (suc n) ps q) s has
 
     -- what gives nothing but a value that is known
     given : {A B : Type 0} (r : Run A) (b : B) (k : B → Act (Unit {0})) → and_then (and_then r (λ _. give b)) k ≡ and_then r (λ _. k b)

@@ -1,6 +1,5 @@
 -- Loops: a turn leads from the place of its test, or of its next item, to the place behind the loop.
-use Rattle.std.proofs.Common.{◌≡◌, ℕ, zero, suc, ◌+◌, ◌≤◌, ◌<◌, List, [], ◌∷◌, length, Option, Some, None, Bool, true, false, refl, arith}
-use Rattle.std.proofs.lemmas.Nat.{leb-true}
+use Rattle.std.proofs.Common.{◌≡◌, ℕ, zero, suc, ◌+◌, ◌≤◌, ◌<◌, List, [], ◌∷◌, length, Option, Some, None, Bool, true, false, refl, arith, leb-true}
 use Rattle.std.specs.Prelude.{ℤ, slice_get, nat_le, ◌==◌, ◌-◌, if◌then◌else◌}
 use Rattle.py_values.specs.declared.exception.ExcKind.TheVariants as kind
 use Rattle.py_values.specs.declared.value.Home.{Home}
@@ -41,7 +40,10 @@ tick_drops s = go (nat_le 1 s.fuel) refl where
   go true e = let some = leb-true 1 s.fuel e in omega (arith, some)
   go false e = tt
 
-module _ (w : World) (c : Setting) (call : Oracle) (code : List Cell) (k : Targets) (around : Open) where
+module _ (c : Setting) (call : Oracle) (code : List Cell) (k : Targets) (around : Open) where
+  abbrev w : World
+  w = c.world
+
   abbrev out : State → Halt → Config
   out = thrown c k.raised around
 

@@ -59,6 +59,10 @@ pub line_length : (h : Handler) (o : Option ℕ) (pc : ℕ) → Ends pc (line_co
 line_length h None pc = nothing_more
 line_length h (Some n) pc = one_more nothing_more
 
+unless_length : (nothing : Bool) (x : Cell) (pc : ℕ) → Ends pc (if nothing then [] else x ∷ []) (if nothing then pc else pc + 1)
+unless_length true x pc = nothing_more
+unless_length false x pc = one_more nothing_more
+
 static_length : (h : Handler) (name : StaticName) (pc : ℕ) → Ends pc (static_code h name) (static_end name pc)
 static_length h static.Int64 pc = nothing_more
 static_length h static.CBool pc = nothing_more
@@ -215,20 +219,14 @@ module _ (names : Names) (h : Handler) where
       (joined (def.members_code names h n begin body) (members_length n body begin) (bind_class_length name n (def.members_end names n begin body)))
 
   pub import_length : (import : Import) (pc : ℕ) → Ends pc (def.import_code names h import) (def.import_end pc import)
-  import_length import pc = by (is_marker_import import) where
-    by : (marker : Bool) → Ends pc (if marker then [] else _ ∷ []) (if marker then pc else pc + 1)
-    by true = nothing_more
-    by false = one_more nothing_more
+  import_length import pc = unless_length (is_marker_import import) _ pc
 
   pub imports_length : (imports : List Import) (pc : ℕ) → Ends pc (def.imports_code names h imports) (def.imports_end pc imports)
   imports_length [] pc = nothing_more
   imports_length (import ∷ imports) pc = joined (def.import_code names h import) (import_length import pc) (imports_length imports (def.import_end pc import))
 
   pub member_import_length : (from : Text) (import : Import) (pc : ℕ) → Ends pc (def.member_import_code names h from import) (if binds_nothing from then pc else pc + 1)
-  member_import_length from import pc = by (binds_nothing from) where
-    by : (nothing : Bool) → Ends pc (if nothing then [] else _ ∷ []) (if nothing then pc else pc + 1)
-    by true = nothing_more
-    by false = one_more nothing_more
+  member_import_length from import pc = unless_length (binds_nothing from) _ pc
 
   pub member_imports_length : (from : Text) (imports : List Import) (pc : ℕ) → Ends pc (def.member_imports_code names h from imports) (def.member_imports_end pc from imports)
   member_imports_length from [] pc = nothing_more
@@ -291,10 +289,10 @@ module _ (names : Names) where
     rows_length k (x.more_statements (x.On line kind) rest) pc =
         one_more (joined (kind_code names k line (pc + 1) kind) (kind_length k line kind (pc + 1)) (rows_length k rest (kind_end names line (pc + 1) kind)))
 
-    pub branch_length : (k : Targets) (end line : ℕ) (test : Expression) (body : Statements) (pc : ℕ)
-        → let tested = line_end pc (line_in names.locals line) in let first = expr_end names tested test + 1 in
-        Ends pc (line_code k.raised (line_in names.locals line) ++ (expr_code names k.raised tested test ++ (cell k.raised _ ∷ (rows_code names k first body ++ cell k.raised _ ∷ [])))) (rows_end names first body + 1)
-    branch_length k end line test body pc =
+    pub branch_length : (k : Targets) (line : ℕ) (test : Expression) (body : Statements) (pc : ℕ) (jump last : Cell)
+        → Ends pc (line_code k.raised (line_in names.locals line) ++ (expr_code names k.raised (line_end pc (line_in names.locals line)) test ++ (jump ∷ (rows_code names k (expr_end names (line_end pc (line_in names.locals line)) test + 1) body ++ last ∷ []))))
+          (rows_end names (expr_end names (line_end pc (line_in names.locals line)) test + 1) body + 1)
+    branch_length k line test body pc jump last =
         let tested = line_end pc (line_in names.locals line) in
         let first = expr_end names tested test + 1 in
         joined (line_code k.raised (line_in names.locals line)) (line_length k.raised (line_in names.locals line) pc)
@@ -304,7 +302,7 @@ module _ (names : Names) where
     branches_length k end x.end_of_branches pc = nothing_more
     branches_length k end (x.more_branches (x.Tested line test body) rest) pc =
         let first = expr_end names (line_end pc (line_in names.locals line)) test + 1 in
-        joined _ (branch_length k end line test body pc) (branches_length k end rest (rows_end names first body + 1))
+        joined _ (branch_length k line test body pc _ _) (branches_length k end rest (rows_end names first body + 1))
 
     pub clauses_length : (k : Targets) (release : ℕ) (clauses : Clauses) (pc : ℕ) → Ends pc (clauses_code names k release pc clauses) (clauses_end names pc clauses)
     clauses_length k release x.end_of_clauses pc = one_more nothing_more

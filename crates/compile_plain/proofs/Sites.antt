@@ -1,5 +1,6 @@
 -- Where code is written, and that its names are those of the scope that it is run in.
 use Rattle.std.proofs.Common.{◌≡◌, ℕ, zero, suc, ◌+◌, List, [], ◌∷◌, map, length, Option, Some, None, Bool, true, false, refl, sym, ap, ◌∙◌, subst, arith}
+use Rattle.std.proofs.lemmas.Slice.Eq.{bytes_eq-Decides}
 use Rattle.std.specs.Prelude.{slice_get, if◌then◌else◌, cond, codes, ltb}
 use Rattle.std.specs.List.{position, position_or_len, list_any}
 use Rattle.std.specs.Option.{option_map}
@@ -44,7 +45,7 @@ position_more {A} p a rest = by (p a) (ltb (position_or_len p rest) (length rest
   by : (b l : Bool) → ltb (position_or_len p rest) (length rest) ≡ l
       → cond (ltb (cond b 0 (suc (position_or_len p rest))) (suc (length rest))) (Some (cond b 0 (suc (position_or_len p rest)))) None
       ≡ (if b then Some 0 else option_map suc (cond l (Some (position_or_len p rest)) None))
-  by true l e = refl
+  by true l e = grind arith
   by false true e = grind (arith, e)
   by false false e = grind (arith, e)
 

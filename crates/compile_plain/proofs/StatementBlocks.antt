@@ -164,7 +164,7 @@ module _ (w : World) (m : ℕ) (t : ModuleText) (text : text_of w m ≡ Some t) 
         let at_line' = has_behind code _ (rows_length names inner body first) has.1 in
         let at_test = has_behind code _ (line_length k.raised (line_in locals line) turn) at_line' in
         from c call code (cell_step c call code has.0 here)
-        (while_does w c call code k around first turn tested last (set_line c line) (eval c call test >>= truth w) (exec_all c call held body)
+        (while_does c call code k around first turn tested last (set_line c line) (eval c call test >>= truth w) (exec_all c call held body)
         (λ y. lines_do k.raised line turn [] around y (has_front code turn (line_code k.raised (line_in locals line)) _ at_line'))
         (λ y. peel w m t text class locals result call code k.raised test tested [] around y _ at_test (λ a z has'. acts c call code has'.0 here))
         (λ y. rows_do held inner body first around y is (has_front code first (rows_code names inner first body) _ has.1))
@@ -180,7 +180,7 @@ module _ (w : World) (m : ℕ) (t : ModuleText) (text : text_of w m ≡ Some t) 
         let at_line' = has_behind code _ (rows_length names inner body begin) at_body in
         let at_step = has_behind code _ (line_length inner.raised (line_in locals line) turn) at_line' in
         from c call code (cell_step c call code has'.0 here)
-        (looked_does w c call code k around first turn step (set_line c line) (λ item. assign c call target (From Dynamic) item >> exec_all c call held body) at_step.0 at_step.1.0
+        (looked_does c call code k around first turn step (set_line c line) (λ item. assign c call target (From Dynamic) item >> exec_all c call held body) at_step.0 at_step.1.0
         (λ it z. lines_do inner.raised line turn [] (looping it around) z (has_front code turn (line_code inner.raised (line_in locals line)) _ at_line'))
         (λ it item z. then_on_comes c call code _ (assignment.assigns w m t text class locals result call code inner.raised target (From Dynamic) first item [] (looping it around) z (has_front code first (assign_code names inner.raised first target) _ has'.1.1))
         (λ u. rows_do held inner body begin (looping it around) u is (has_front code begin (rows_code names inner begin body) _ at_body)))
@@ -226,7 +226,7 @@ module _ (w : World) (m : ℕ) (t : ModuleText) (text : text_of w m ≡ Some t) 
         then_comes c call code {f = testing first [] next [] around} {r = truth w a z} (acts c call code has'.0 here) (λ b u.
         picks c call code b (exec_all c call held body) (exec_branches c call held rest orelse) u
         (extends c call code k around (rows_end names first body) end _ (rows_do held k body first around u is (has_front code first (rows_code names k first body) _ has'.1)) (λ r. cell_step c call code jump.0 here))
-        (branches_do held k end rest orelse next around u is (has_behind code _ (branch_length names k end line test body pc) has) j))))
+        (branches_do held k end rest orelse next around u is (has_behind code _ (branch_length names k line test body pc _ _) has) j))))
 
     -- what is raised in the test of a clause goes on as if there were no `try`
     clauses_do : (held : Option Value) (k : Targets) (release raised : ℕ) (e : Value) (clauses : Clauses) (pc : ℕ) (around : Open) (s : State) → innermost around.held ≡ held
