@@ -26,3 +26,4 @@ pub mod StepsOfStatements
 pub mod Keeps
 pub mod RunLaws
 pub mod Budgets
+pub mod Pieces

@@ -1,5 +1,5 @@
 -- What holds of all runs: of functions, of the bodies of modules, and of calls from outside.
-use Rattle.std.specs.Prelude.{◌≡◌, ◌≢◌, ℕ, suc, ◌+◌, ◌^◌, ◌<◌, ◌≤◌, List, length, ◌++◌, Bool, Option}
+use Rattle.std.specs.Prelude.{◌≡◌, ◌≢◌, ℕ, suc, ◌+◌, ◌^◌, ◌<◌, ◌≤◌, List, [], length, ◌++◌, Bool, Option}
 use Rattle.py_tree.specs.Syntax.{Text}
 use Rattle.py_values.specs.declared.value.Home.{Home}
 use Rattle.py_values.specs.declared.value.Home.TheVariants as home
@@ -13,6 +13,7 @@ use Rattle.py_meaning.specs.Acts.{Act, Run, Gives, Halts, Flow, tick}
 use Rattle.py_meaning.specs.Modules.{World}
 use Rattle.py_meaning.specs.Iterables.{over_list, over_range, while_true}
 use Rattle.py_meaning.specs.Modes.{import_mode, entry_mode}
+use Rattle.py_meaning.specs.Methods.{joined, pieces}
 use Rattle.py_meaning.specs.Statements.{exec_all}
 use Rattle.py_meaning.specs.Runs.{meaning, body_setting, run_body, call_from_outside, shown_from_outside}
 
@@ -91,6 +92,12 @@ pub record TurnsEndWithFuel (w : World) (back : Act (Unit {0})) (body : Value �
 
 abbrev pub LoopsEndWithFuel : Type 0
 LoopsEndWithFuel = (w : World) (back : Act (Unit {0})) (body : Value → Act Flow) → NeverRaisesFuel back → ((x : Value) → NeverRaisesFuel (body x)) → TurnsEndWithFuel w back body
+
+-- ---- texts
+
+-- the pieces of a text, joined with the part between them, are the text again
+abbrev pub PiecesJoin : Type 0
+PiecesJoin = (part text : Text) → part ≢ [] → joined part (pieces part 0 [] text) ≡ text
 
 -- ---- names
 
