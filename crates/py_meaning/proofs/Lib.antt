@@ -27,3 +27,4 @@ pub mod Keeps
 pub mod RunLaws
 pub mod Budgets
 pub mod Pieces
+pub mod HostSlots
