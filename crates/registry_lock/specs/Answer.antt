@@ -1,5 +1,5 @@
 -- What `take` answers.
-use Rattle.std.specs.Prelude.{◌≡◌, ◌<◌, ℕ, List, ⊤}
+use Rattle.std.specs.Prelude.{◌≡◌, ◌<◌, ℕ, List}
 use Rattle.registry_core.specs.declared.loads.Loads.{Ghosts as LoadsGhosts}
 use Rattle.registry_core.specs.declared.naming.Naming.{Ghosts as NamingGhosts}
 use Rattle.registry_core.specs.declared.imports.Import.{Import}

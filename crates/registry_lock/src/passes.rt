@@ -1,5 +1,7 @@
-ghost use Rattle.std.specs.Prelude.{◌≡◌, ◌≤◌, ◌<◌, ◌+◌, All, IfOk, length};
+ghost use Rattle.std.specs.Prelude.{◌≡◌, ◌≤◌, All, IfOk};
+ghost use Rattle.std.specs.Borrow.{sem};
 ghost use Rattle.registry_lock.specs.Passes.{AreFresh};
+ghost use Rattle.registry_lock.specs.Lending.{lends_passes};
 
 use crate::pass::Pass;
 use std::alloc::{AllocError, Global};
@@ -27,11 +29,7 @@ impl<N: Ledger> Model for Passes<N> {
 
 impl<N: Ledger> Passes<N> {
     /// A pass for each of so many loaders, out of the whole ledger.
-    pub(crate) fn of(
-        alloc: Global,
-        whole: Share<N>,
-        loaders: u32,
-    ) -> Result<Passes<N>, AllocError>
+    pub(crate) fn of(alloc: Global, whole: Share<N>, loaders: u32) -> Result<Passes<N>, AllocError>
         requires parts { whole.parts ≡ N.parts }
         requires amount { whole.amount ≡ 0 }
         requires loaders { loaders ≤ N.parts }
@@ -48,7 +46,8 @@ impl<N: Ledger> Passes<N> {
 
     /// The passes, lent as they stand.
     pub fn rows(&mut self) -> &mut [Pass<N>]
-        ensures { result.now ≡ self.entry.now }
+        ensures* writes_back { sem 𝓛 (lends_passes N.row N.Ledger self.entry result) }
+        ensures value { result.now ≡ self.entry.now }
     {
         self.rows.as_mut_slice()
     }
