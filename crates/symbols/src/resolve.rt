@@ -28,8 +28,8 @@ use py_tree::fault::Stop;
 use py_tree::statement::{Function, Module, Stmt};
 use std::alloc::{AllocError, Global};
 
-/// The names of a module (Python reference: naming and binding). In time linear in its text, but for
-/// the search of a base among the classes of an imported module.
+/// The names of a module (Python reference: naming and binding). In time linear in its text and in the
+/// classes that its imports bind.
 ///
 /// # Errors
 ///
