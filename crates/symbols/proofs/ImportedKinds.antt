@@ -1,12 +1,11 @@
 -- Where the classes of imports stand among those of all.
-use Rattle.std.proofs.Common.{◌≡◌, ◌∙◌, ◌+◌, ◌<◌, ℕ, Bool, true, false, zero, suc, List, [], ◌∷◌, ◌++◌, length, take, Option, Some, None, refl, sym, ap, subst, append_assoc, arith, length-append, get_or, zero-add, add_assoc, ◌⊎◌, inl, inr}
+use Rattle.std.proofs.Common.{◌≡◌, ◌∙◌, ◌+◌, ◌<◌, ℕ, zero, suc, List, [], ◌∷◌, ◌++◌, length, take, Option, Some, None, refl, sym, ap, subst, append_assoc, arith, length-append, zero-add, add_assoc, ◌⊎◌, inl, inr}
 use Rattle.std.specs.Prelude.{slice_get}
 use Rattle.std.specs.List.{find}
 use Rattle.std.specs.Str.{bytes_eq}
-use Rattle.std.specs.Option.{option_map, option_or}
-use Rattle.std.proofs.lemmas.List.Folds.{find-append}
+use Rattle.std.specs.Option.{option_map}
 use Rattle.std.proofs.lemmas.Option.{slice_get-map, slice_get_within}
-use Rattle.std.proofs.lemmas.List.{take_more, append-nil, length-map}
+use Rattle.std.proofs.lemmas.List.{append-nil, length-map}
 use Rattle.py_tree.specs.Syntax.{Text}
 use Rattle.symbols.specs.declared.class.ClassKind.{ClassKind}
 use Rattle.symbols.specs.declared.name_map.NameMap.{NameMap}

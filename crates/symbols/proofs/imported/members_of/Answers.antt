@@ -18,5 +18,5 @@ loop-binding-preserved c =
     record {
       count = rw c.in_ok-push.ensures.items (length-append ms (_ ∷ []) ∙ ap (λ n. n + 1) c.loop-binding.invariant.count);
       all = subst (λ (xs : List OuterBinding). AreMembers xs c.push.new.self.items) (sym more)
-        (subst (λ (xs : List (NameMap ℕ)). AreMembers (take i bs ++ b ∷ []) xs) (sym c.in_ok-push.ensures.items) (members-push (take i bs) ms b _ size c.loop-binding.invariant.all c.in_ok-members_in.ensures));
+          (subst (λ (xs : List (NameMap ℕ)). AreMembers (take i bs ++ b ∷ []) xs) (sym c.in_ok-push.ensures.items) (members-push (take i bs) ms b _ size c.loop-binding.invariant.all c.in_ok-members_in.ensures));
     }
