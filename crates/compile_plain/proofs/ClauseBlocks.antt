@@ -143,7 +143,7 @@ module _ (w : World) (m : ℕ) (t : ModuleText) (text : text_of w m ≡ Some t) 
   bound_some None e s = refl
   bound_some (Some name) e s = sets w m t text class result locals name (Some e) s
 
-  abbrev caught : Value → ℕ → Option Variable → Caught
+  abbrev pub caught : Value → ℕ → Option Variable → Caught
   caught e raised x = record { exception = e; line = raised; variable = x }
 
   any_out : (go : Unit {0} → State → Config) (out out' : State → Halt → Config) (r : Run (Unit {0})) → (y : State) × (r ≡ Gives y tt) → Leads c call code (after go out r) (after go out' r)

@@ -87,7 +87,7 @@ module _ (w : World) (m : ℕ) (t : ModuleText) (text : text_of w m ≡ Some t) 
   -- what is behind the test of a receiver
   module _ {B : Type 0} (go : B → State → Config) (out : State → Halt → Config) (name : Text) (at : State → Config) (k : Found → Act B) where
     unfound_leads : ((y : State) → Comes c call code (at y) go out (k None y)) → (b : Bool) (y : State)
-        → Leads c call code (after (λ u. at) out ((choose {Found} b (give None) (raise w kind.AttributeError) >> done) y)) (after go out ((choose {Found} b (give None) (raise w kind.AttributeError) >>= k) y))
+        → Leads c call code (after (λ u. at) out ((choose {A = Found} b (give None) (raise w kind.AttributeError) >> done) y)) (after go out ((choose {A = Found} b (give None) (raise w kind.AttributeError) >>= k) y))
     unfound_leads i true y = (i y).by
     unfound_leads i false y = here
 

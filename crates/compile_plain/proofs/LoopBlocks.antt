@@ -13,6 +13,7 @@ use Rattle.py_meaning.specs.Looks as seen
 use Rattle.py_meaning.specs.Looks.{Seen, look, raise}
 use Rattle.py_meaning.specs.Iterables.{characters, shown_keys, again, turn, over_each, over_range, over_list, over_dict, over, unless_resized, while_true}
 use Rattle.py_meaning.specs.Calls.{Oracle}
+use Rattle.py_meaning.proofs.FuelFalls.{Falls}
 use Rattle.py_meaning.proofs.Keeps.{Keeps}
 use Rattle.bytecode.specs.declared.instr.Cell.{Cell}
 use Rattle.bytecode.specs.declared.instr.Instr.TheVariants as i
@@ -24,9 +25,6 @@ use Rattle.compile_plain.specs.Cells.{cell, in_while, in_for}
 use Rattle.compile_plain.proofs.Comes.{Meets, Comes, both, from, acts, cell_step, flowing}
 
 -- ---- fuel
-
-abbrev pub Falls : State → State → Type 0
-Falls s t = t.fuel ≤ s.fuel
 
 pub meets_falls : {A : Type 0} (m : Act A) → Keeps Falls m → (s : State) → Meets (λ a t. t.fuel ≤ s.fuel) (m s)
 meets_falls {A} m keeps s = go (m s) (keeps.by s) where

@@ -289,20 +289,13 @@ module _ (names : Names) where
     rows_length k (x.more_statements (x.On line kind) rest) pc =
         one_more (joined (kind_code names k line (pc + 1) kind) (kind_length k line kind (pc + 1)) (rows_length k rest (kind_end names line (pc + 1) kind)))
 
-    pub branch_length : (k : Targets) (line : ℕ) (test : Expression) (body : Statements) (pc : ℕ) (jump last : Cell)
-        → Ends pc (line_code k.raised (line_in names.locals line) ++ (expr_code names k.raised (line_end pc (line_in names.locals line)) test ++ (jump ∷ (rows_code names k (expr_end names (line_end pc (line_in names.locals line)) test + 1) body ++ last ∷ []))))
-          (rows_end names (expr_end names (line_end pc (line_in names.locals line)) test + 1) body + 1)
-    branch_length k line test body pc jump last =
-        let tested = line_end pc (line_in names.locals line) in
-        let first = expr_end names tested test + 1 in
-        joined (line_code k.raised (line_in names.locals line)) (line_length k.raised (line_in names.locals line) pc)
-        (joined (expr_code names k.raised tested test) (expr_length names k.raised test tested) (one_more (joined (rows_code names k first body) (rows_length k body first) (one_more nothing_more))))
-
     pub branches_length : (k : Targets) (end : ℕ) (bs : Branches) (pc : ℕ) → Ends pc (branches_code names k end pc bs) (branches_end names pc bs)
     branches_length k end x.end_of_branches pc = nothing_more
     branches_length k end (x.more_branches (x.Tested line test body) rest) pc =
-        let first = expr_end names (line_end pc (line_in names.locals line)) test + 1 in
-        joined _ (branch_length k line test body pc _ _) (branches_length k end rest (rows_end names first body + 1))
+        let tested = line_end pc (line_in names.locals line) in
+        let first = expr_end names tested test + 1 in
+        joined _ (joined (line_code k.raised (line_in names.locals line)) (line_length k.raised (line_in names.locals line) pc)
+        (joined (expr_code names k.raised tested test) (expr_length names k.raised test tested) (one_more (joined (rows_code names k first body) (rows_length k body first) (one_more nothing_more))))) (branches_length k end rest (rows_end names first body + 1))
 
     pub clauses_length : (k : Targets) (release : ℕ) (clauses : Clauses) (pc : ℕ) → Ends pc (clauses_code names k release pc clauses) (clauses_end names pc clauses)
     clauses_length k release x.end_of_clauses pc = one_more nothing_more
@@ -312,3 +305,12 @@ module _ (names : Names) where
         let first = expr_end names pc e + 1 in
         joined _ (joined (expr_code names k.raised pc e) (expr_length names k.raised e pc) (one_more (one_more (joined (rows_code names k (first + 1) body) (rows_length k body (first + 1)) (one_more nothing_more)))))
         (clauses_length k release rest (rows_end names (first + 1) body + 1))
+
+  pub branch_length : (k : Targets) (line : ℕ) (test : Expression) (body : Statements) (pc : ℕ) (jump last : Cell)
+      → Ends pc (line_code k.raised (line_in names.locals line) ++ (expr_code names k.raised (line_end pc (line_in names.locals line)) test ++ (jump ∷ (rows_code names k (expr_end names (line_end pc (line_in names.locals line)) test + 1) body ++ last ∷ []))))
+        (rows_end names (expr_end names (line_end pc (line_in names.locals line)) test + 1) body + 1)
+  branch_length k line test body pc jump last =
+      let tested = line_end pc (line_in names.locals line) in
+      let first = expr_end names tested test + 1 in
+      joined (line_code k.raised (line_in names.locals line)) (line_length k.raised (line_in names.locals line) pc)
+      (joined (expr_code names k.raised tested test) (expr_length names k.raised test tested) (one_more (joined (rows_code names k first body) (rows_length k body first) (one_more nothing_more))))

@@ -1,7 +1,7 @@
 -- Where code is written, and that its names are those of the scope that it is run in.
 use Rattle.std.proofs.Common.{◌≡◌, ℕ, zero, suc, ◌+◌, List, [], ◌∷◌, map, length, Option, Some, None, Bool, true, false, refl, sym, ap, ◌∙◌, subst, arith}
 use Rattle.std.proofs.lemmas.Slice.Eq.{bytes_eq-Decides}
-use Rattle.std.specs.Prelude.{slice_get, if◌then◌else◌, cond, codes, ltb}
+use Rattle.std.specs.Prelude.{slice_get, if◌then◌else◌, cond, codes, ltb, not}
 use Rattle.std.specs.List.{position, position_or_len, list_any}
 use Rattle.std.specs.Option.{option_map}
 use Rattle.std.specs.Str.{bytes_eq}
@@ -43,7 +43,7 @@ same_texts a b e = (bytes_eq-Decides a b).0 e
 pub position_more : {A : Type 0} (p : A → Bool) (a : A) (rest : List A) → position p (a ∷ rest) ≡ (if p a then Some 0 else option_map suc (position p rest))
 position_more {A} p a rest = by (p a) (ltb (position_or_len p rest) (length rest)) refl where
   by : (b l : Bool) → ltb (position_or_len p rest) (length rest) ≡ l
-      → cond (ltb (cond b 0 (suc (position_or_len p rest))) (suc (length rest))) (Some (cond b 0 (suc (position_or_len p rest)))) None
+      → cond (ltb (cond (not b) (1 + position_or_len p rest) 0) (suc (length rest))) (Some (cond (not b) (1 + position_or_len p rest) 0)) None
       ≡ (if b then Some 0 else option_map suc (cond l (Some (position_or_len p rest)) None))
   by true l e = grind arith
   by false true e = grind (arith, e)

@@ -50,7 +50,9 @@ class_names own others fs earlier (k ∷ cs) =
 
 -- the function of a number is the one that is written there
 written : (f : Option FunctionIn) (s : Option Signature) (k : KnownFunction) → known_function f s ≡ Some k → f ≡ Some (record { function = k.function; class = k.class })
-written (Some f) (Some s) k e = cc (e)
+written (Some f) (Some s) k e =
+    let same : record { function = f.function; class = f.class; signature = s } ≡ k = cc (e) in
+    ap (λ (k : KnownFunction). Some (record { function = k.function; class = k.class })) same
 written None s k e = cc (e)
 written (Some f) None k e = cc (e)
 

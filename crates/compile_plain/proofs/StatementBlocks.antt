@@ -22,13 +22,8 @@ use Rattle.py_meaning.specs.Exceptions.{takes, in_clause}
 use Rattle.py_meaning.specs.Definitions.{set_line}
 use Rattle.py_meaning.specs.Statements.{then_on, exec, exec_all, exec_branches, exec_clauses}
 use Rattle.py_meaning.specs.Standing.{fuel_left, MakesNoFuel}
-use Rattle.py_meaning.proofs.Steps.{Steps, Both, ticked, seq}
-use Rattle.py_meaning.proofs.Keeps.{Keeps, steps}
-use Rattle.py_meaning.proofs.RunLaws.{fuel_falls}
-use Rattle.py_meaning.proofs.StepsOfOperators.{truths}
-use Rattle.py_meaning.proofs.StepsOfExpressions.{evals}
-use Rattle.py_meaning.proofs.StepsOfTargets.{assigns}
-use Rattle.py_meaning.proofs.StepsOfStatements.{execs_all}
+use Rattle.py_meaning.proofs.Keeps.{Keeps}
+use Rattle.py_meaning.proofs.FuelFalls.{Falls, lines_fall, tests_fall, blocks_fall, turns_fall}
 use Rattle.bytecode.specs.declared.instr.Cell.{Cell}
 use Rattle.bytecode.specs.declared.instr.Handler.{Handler}
 use Rattle.bytecode.specs.declared.instr.Instr.TheVariants as i
@@ -47,7 +42,7 @@ use Rattle.compile_plain.proofs.Sites.{site, names_at, lines}
 use Rattle.compile_plain.proofs.ExpressionBlocks.{eval_gets, peel}
 use Rattle.compile_plain.proofs.AssignmentBlocks as assignment
 use Rattle.compile_plain.proofs.DefinitionBlocks as definition
-use Rattle.compile_plain.proofs.LoopBlocks.{Falls, while_does, looked_does}
+use Rattle.compile_plain.proofs.LoopBlocks.{while_does, looked_does}
 use Rattle.compile_plain.proofs.ClauseBlocks.{raises, raises_again, rescues_do, caught, taken_does}
 
 left_is : (r : Run Value) → fuel_left r ≡ (end_of r).fuel
@@ -65,26 +60,6 @@ module _ (w : World) (m : ℕ) (t : ModuleText) (text : text_of w m ≡ Some t) 
 
   calls_fall : (m n : ℕ) (values : List Value) → Keeps Falls (call m n values)
   calls_fall m n values = record { by = λ s. subst (λ (left : ℕ). left ≤ s.fuel) (left_is (call m n values s)) (fuel m n values s) }
-
-  expr_falls : (e : Expression) → Keeps Falls (eval c call e)
-  unfolding steps
-  expr_falls e = evals (ticked (steps (fuel_falls w))) calls_fall c.scope e
-
-  test_falls : (e : Expression) → Keeps Falls (eval c call e >>= truth w)
-  unfolding steps
-  test_falls e = (steps (fuel_falls w)).bind (expr_falls e) (truths (steps (fuel_falls w)))
-
-  rows_fall : (held : Option Value) (rows : Statements) → Keeps Falls (exec_all c call held rows)
-  unfolding steps
-  rows_fall held rows = execs_all (ticked (steps (fuel_falls w))) calls_fall c.scope held rows
-
-  turn_falls : (target : x.Target) (held : Option Value) (rows : Statements) (item : Value) → Keeps Falls (assign c call target (From Dynamic) item >> exec_all c call held rows)
-  unfolding steps
-  turn_falls target held rows item = seq (steps (fuel_falls w)) (assigns (ticked (steps (fuel_falls w))) calls_fall c.scope target (From Dynamic) item) (rows_fall held rows)
-
-  line_falls : (line : ℕ) → Keeps Falls (set_line c line)
-  unfolding steps
-  line_falls line = (steps (fuel_falls w)).sets_line c line
 
   -- ---- lines
 
@@ -168,7 +143,7 @@ module _ (w : World) (m : ℕ) (t : ModuleText) (text : text_of w m ≡ Some t) 
         (λ y. lines_do k.raised line turn [] around y (has_front code turn (line_code k.raised (line_in locals line)) _ at_line'))
         (λ y. peel w m t text class locals result call code k.raised test tested [] around y _ at_test (λ a z has'. acts c call code has'.0 here))
         (λ y. rows_do held inner body first around y is (has_front code first (rows_code names inner first body) _ has.1))
-        (line_falls line) (test_falls test) (rows_fall held body) (suc s.fuel) s (omega arith))
+        (lines_fall w c.scope line) (tests_fall w calls_fall c.scope test) (blocks_fall w calls_fall c.scope held body) (suc s.fuel) s (omega arith))
     exec_does held k line (x.For target e body) pc around s is has =
         let first = expr_end names pc e + 1 + 1 in
         let begin = assign_end names first target in
@@ -184,7 +159,7 @@ module _ (w : World) (m : ℕ) (t : ModuleText) (text : text_of w m ≡ Some t) 
         (λ it z. lines_do inner.raised line turn [] (looping it around) z (has_front code turn (line_code inner.raised (line_in locals line)) _ at_line'))
         (λ it item z. then_on_comes c call code _ (assignment.assigns w m t text class locals result call code inner.raised target (From Dynamic) first item [] (looping it around) z (has_front code first (assign_code names inner.raised first target) _ has'.1.1))
         (λ u. rows_do held inner body begin (looping it around) u is (has_front code begin (rows_code names inner begin body) _ at_body)))
-        (line_falls line) (turn_falls target held body) (expr_end names pc e + 1) has'.1.0 (look w a y)))
+        (lines_fall w c.scope line) (λ item. turns_fall w calls_fall c.scope target (From Dynamic) item held body) (expr_end names pc e + 1) has'.1.0 (look w a y)))
     exec_does held k line (x.Try body clauses) pc around s is has =
         let behind = rows_end names pc body in
         let first = line_end (behind + 1) (line_in locals line) in

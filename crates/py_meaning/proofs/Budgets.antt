@@ -15,14 +15,12 @@ use Rattle.py_meaning.specs.Runs.{back_in, meaning, module_scope}
 use Rattle.py_meaning.specs.Laws.{end_of, TicksLowerFuel, CallsEndWithFuel, BodiesEndWithFuel, LoopsEndWithFuel}
 use Rattle.py_meaning.proofs.Keeps as k
 use Rattle.py_meaning.proofs.Keeps.{Keeps}
+use Rattle.py_meaning.proofs.FuelFalls.{Falls}
 use Rattle.py_meaning.proofs.RunLaws.{fuel_falls}
 use Rattle.py_meaning.proofs.Steps as every
 use Rattle.py_meaning.proofs.Steps.{Steps, Ticked, chosen, sees}
 use Rattle.py_meaning.proofs.StepsOfLoops.{turns}
 use Rattle.py_meaning.proofs.StepsOfStatements.{execs_all, functions}
-
-abbrev Falls : State → State → Type 0
-Falls s t = t.fuel ≤ s.fuel
 
 -- with less fuel than that the second does what the first does, which never raises it
 pub record Same (bound : ℕ) {A : Type 0} (m m' : Act A) : Type 0 where

@@ -1,16 +1,18 @@
 -- The worlds and states of worked bodies belong together, before a body is run and behind it; a state with a value that isn't there doesn't.
 use Rattle.std.proofs.Common.{◌≡◌, refl}
-use Rattle.std.specs.Prelude.{Bool, true, false, [], ◌∷◌}
-use Rattle.py_tree.specs.Syntax.{Statements}
+use Rattle.std.specs.Prelude.{◌≢◌, ℕ, Bool, true, false, List, [], ◌∷◌, map, length, codes, pos, Option, Some, None}
+use Rattle.py_tree.specs.Syntax.{Text, Statements}
 use Rattle.py_values.specs.declared.class_id.ClassId.TheVariants as id
 use Rattle.py_values.specs.declared.value.Home.TheVariants as home
 use Rattle.key_map.specs.Keys as key
 use Rattle.gradual_types.specs.Values as v
-use Rattle.gradual_types.specs.Values.{Content}
+use Rattle.gradual_types.specs.Values.{Value, Content}
 use Rattle.py_values.specs.declared.exception.ExcKind.TheVariants as kind
 use Rattle.py_meaning.specs.Classes.{line_of}
-use Rattle.py_meaning.specs.Runs.{body_start}
-use Rattle.py_meaning.specs.WellFormed.{all_stand, line_goes_on}
+use Rattle.py_meaning.specs.Modules.{World, Loaded}
+use Rattle.py_meaning.specs.Runs.{start, body_start, opened_objects}
+use Rattle.py_meaning.specs.WellFormed.{all_stand, image_stands, line_goes_on}
+use Rattle.py_meaning.specs.Worlds.{loaded}
 use Rattle.py_meaning.proofs.Ends.{world, ended_state}
 use Rattle.py_meaning.proofs.ExamplesOfStatements.{texts_and_containers}
 use Rattle.py_meaning.proofs.ExamplesOfCosts.{recursion, super_call, key_error_caught, default_taken}
@@ -49,7 +51,8 @@ host_values_behind = refl
 passed_host_values_behind : behind passed_and_returned ≡ true
 passed_host_values_behind = refl
 
--- a primitive, an object that isn't there, a key that its value doesn't show, an instance with too few slots, a class that no module has
+-- a primitive, an object that isn't there, a key that its value doesn't show, a key that is there twice, an instance with too few slots, a class that
+-- no module has, a module that isn't there
 
 primitive_stands_nowhere : with_object (v.Listed (v.PrimBool true ∷ [])) recursion ≡ false
 primitive_stands_nowhere = refl
@@ -60,11 +63,65 @@ missing_object = refl
 key_of_another_value : with_object (v.Mapped (record { key = key.Nil; shown = v.Truth true; value = v.Nil } ∷ [])) recursion ≡ false
 key_of_another_value = refl
 
+key_of_two_entries : with_object
+    (v.Mapped (record { key = key.Int (pos 1); shown = v.Truth true; value = v.Nil } ∷ record { key = key.Int (pos 1); shown = v.Int (pos 1); value = v.Nil } ∷ [])) recursion
+    ≡ false
+key_of_two_entries = refl
+
+keys_of_two_entries : with_object
+    (v.Mapped (record { key = key.Int (pos 1); shown = v.Truth true; value = v.Nil } ∷ record { key = key.Int (pos 2); shown = v.Int (pos 2); value = v.Nil } ∷ [])) recursion
+    ≡ true
+keys_of_two_entries = refl
+
 instance_of_no_class : with_object (v.Instance (id.User 0 0) []) recursion ≡ false
 instance_of_no_class = refl
 
 method_of_another_class : with_object (v.Listed (v.Bound (v.Points []) (v.Function 0 0) ∷ [])) recursion ≡ false
 method_of_another_class = refl
+
+own_module : with_object (v.Listed (v.Module 0 ∷ [])) recursion ≡ true
+own_module = refl
+
+module_without_image : with_object (v.Listed (v.Module 1 ∷ [])) recursion ≡ false
+module_without_image = refl
+
+-- ---- images
+
+abbrev image_of : Statements → Loaded
+image_of body = loaded (world body) (ended_state body)
+
+-- of a body's image, with this global alone
+abbrev with_global : Text → Option Value → Statements → Bool
+with_global name value body = image_stands (world body) (ended_state body)
+    (Some (record (image_of body) { image = record ((image_of body).image) { globals = record { name = name; value = value } ∷ [] } }))
+
+global_of_the_tree : with_global (codes "A") (Some v.Nil) texts_and_containers ≡ true
+global_of_the_tree = refl
+
+global_of_another_tree : with_global (codes "other") (Some v.Nil) texts_and_containers ≡ false
+global_of_another_tree = refl
+
+unbound_global_of_another_tree : with_global (codes "other") None texts_and_containers ≡ true
+unbound_global_of_another_tree = refl
+
+-- ---- objects of other modules: at the start of a run as the images hold them, and never fewer or more
+
+others_at_the_start : (w : World) (names : List Text) (frames fuel : ℕ) → map length (start w names frames fuel).others ≡ map length (opened_objects w.images)
+others_at_the_start w names frames fuel = refl
+
+abbrev none_of_a_module : List (List Content)
+none_of_a_module = [] ∷ []
+
+objects_of_an_image_left_out : map length none_of_a_module ≢ map length (opened_objects (Some (image_of texts_and_containers) ∷ []))
+objects_of_an_image_left_out e = absurd cc
+
+-- ---- host slots: as many as the own module names
+
+abbrev without_slots : World
+without_slots = record (world stored) { hosts = [] }
+
+host_slot_left_out : length without_slots.hosts ≢ length without_slots.own.facts.hosts
+host_slot_left_out e = absurd cc
 
 -- ---- lines of classes
 

@@ -25,4 +25,7 @@ pub mod StepsOfTargets
 pub mod StepsOfStatements
 pub mod Keeps
 pub mod RunLaws
+pub mod FuelFalls
 pub mod Budgets
+pub mod Pieces
+pub mod HostSlots

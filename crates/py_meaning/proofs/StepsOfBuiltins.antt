@@ -1,5 +1,5 @@
 -- What steps meet is met by builtin functions and types.
-use Rattle.std.specs.Prelude.{ℕ, ℤ, pos, Bool, true, false, List, [], ◌∷◌, length, codes, Option, Some, None}
+use Rattle.std.specs.Prelude.{ℕ, ℤ, pos, true, false, List, [], ◌∷◌, length, codes, Option, Some}
 use Rattle.std.specs.Ordering.{int_eq}
 use Rattle.py_tree.specs.Syntax.{Text}
 use Rattle.py_tree.specs.declared.operator.CompareOp.{CompareOp}
@@ -18,8 +18,8 @@ use Rattle.py_meaning.specs.Modules.{World}
 use Rattle.py_meaning.specs.Looks as seen
 use Rattle.py_meaning.specs.Looks.{Seen}
 use Rattle.py_meaning.specs.Operands.{operand, range_count}
-use Rattle.py_meaning.specs.Builtins.{look_all, tabled, after_space, printed, as_text, count_as_int, size, range_of, range_by, numbers, made_range, copied_dict, best, best_of, extreme, is_of_type, or_type_error, is_of, is_of_some, is_of_type_or_tuple, instance_test, builtin_result}
-use Rattle.py_meaning.proofs.Steps.{Steps, Kept, seq, chosen, raises, errs, looks}
+use Rattle.py_meaning.specs.Builtins.{look_all, called_by_table, after_space, printed, as_text, count_as_int, size, range_of, range_by, numbers, made_range, copied_dict, best, best_of, extreme, is_of_type, is_of, is_of_some, is_of_type_or_tuple, instance_test, builtin_result}
+use Rattle.py_meaning.proofs.Steps.{Steps, Kept, seq, chosen, raises, errs, or_raises, looks}
 use Rattle.py_meaning.proofs.StepsOfOperators.{answers, tables, orders}
 use Rattle.py_meaning.proofs.StepsOfTexts.{says, says_then, strs, reprs}
 use Rattle.py_meaning.proofs.StepsOfLoops.{gathers}
@@ -29,7 +29,7 @@ module _ {w : World} (q : Steps w) where
   looks_all [] = q.gives []
   looks_all (x ∷ xs) = q.bind (looks q x) (λ a. q.bind (looks_all xs) (λ rest. q.gives _))
 
-  pub rows : (callee : op.Callee) (x : Value) → Kept q (tabled w callee x)
+  pub rows : (callee : op.Callee) (x : Value) → Kept q (called_by_table w callee x)
   rows callee x = q.bind (looks q x) (λ a. tables q (op.Call callee (operand a ∷ [])))
 
   -- ---- print
@@ -90,13 +90,9 @@ module _ {w : World} (q : Steps w) where
 
   -- ---- isinstance
 
-  pub is_type : (b : Option Bool) → Kept q (or_type_error w b)
-  is_type None = errs q
-  is_type (Some b) = q.gives b
-
   pub tests_type : (a type : Seen) → Kept q (is_of w a type)
   tests_type a (seen.Class class) = q.gives _
-  tests_type a (seen.BuiltIn b) = is_type (is_of_type a b)
+  tests_type a (seen.BuiltIn b) = or_raises q kind.TypeError (is_of_type a b)
   tests_type a other = errs q
 
   pub tests_some : (a : Seen) (ts : List Value) → Kept q (is_of_some w a ts)

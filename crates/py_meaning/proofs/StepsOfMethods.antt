@@ -1,5 +1,5 @@
 -- What steps meet is met by the methods of texts, lists and dictionaries.
-use Rattle.std.specs.Prelude.{ℕ, List, [], ◌∷◌, ◌++◌, map, Option, Some, None}
+use Rattle.std.specs.Prelude.{ℕ, List, [], ◌∷◌, ◌++◌, map, Option, Some}
 use Rattle.py_tree.specs.Syntax.{Text}
 use Rattle.py_values.specs.declared.builtin.Builtin.{Builtin}
 use Rattle.py_values.specs.declared.builtin.Builtin.TheVariants as method
@@ -14,21 +14,17 @@ use Rattle.py_meaning.specs.Looks as seen
 use Rattle.py_meaning.specs.Looks.{Seen, home_of}
 use Rattle.py_meaning.specs.Operands.{operand}
 use Rattle.py_meaning.specs.Iterables.{shown_keys}
-use Rattle.py_meaning.specs.Methods.{text_in, or_type_error, texts_of, pieces, join, split, text_result, put_behind, append_all, list_result, put_key, put_pairs, pairs_in, values_in, pair_value, update, listed, dict_result, result_of, method_result, ask_for}
-use Rattle.py_meaning.proofs.Steps.{Steps, Kept, seq, raises, errs, asks, looks, sees, may_write_at_kept}
+use Rattle.py_meaning.specs.Methods.{text_in, texts_of, pieces, join, split, text_result, put_behind, append_all, list_result, put_key, put_pairs, pairs_in, values_in, pair_value, update, listed, dict_result, result_of, method_result, ask_for}
+use Rattle.py_meaning.proofs.Steps.{Steps, Kept, seq, raises, errs, or_raises, asks, looks, sees, may_write_at_kept}
 use Rattle.py_meaning.proofs.StepsOfOperators.{tables, keys}
 use Rattle.py_meaning.proofs.StepsOfLoops.{gathers}
 
 module _ {w : World} (q : Steps w) where
   -- ---- texts
 
-  pub is_text : (text : Option Text) → Kept q (or_type_error w text)
-  is_text None = errs q
-  is_text (Some text) = q.gives text
-
   pub texts : (xs : List Value) → Kept q (texts_of w xs)
   texts [] = q.gives []
-  texts (x ∷ xs) = q.bind (looks q x) (λ a. q.bind (is_text (text_in a)) (λ text. q.bind (texts xs) (λ rest. q.gives _)))
+  texts (x ∷ xs) = q.bind (looks q x) (λ a. q.bind (or_raises q kind.TypeError (text_in a)) (λ text. q.bind (texts xs) (λ rest. q.gives _)))
 
   pub text_joins : (between : Text) (x : Value) → Kept q (join w between x)
   text_joins between x = q.bind (gathers q x) (λ items. q.bind (texts items) (λ all. q.bind (q.pays _) (λ a. q.gives _)))

@@ -1,4 +1,4 @@
--- Atoms put in for host values: in values, objects, states and images.
+-- Atoms put in for host values: in values, objects, states, images and worlds.
 use Rattle.std.specs.Prelude.{ℕ, List, map, Option}
 use Rattle.std.specs.Option.{option_map}
 use Rattle.key_map.specs.Entries.{Entry}
@@ -6,7 +6,7 @@ use Rattle.gradual_types.specs.Values as v
 use Rattle.gradual_types.specs.Values.{Value, Values, Content}
 use Rattle.gradual_types.specs.States.{State, Variable, Default}
 use Rattle.gradual_types.specs.Images.{Atom, atom_value}
-use Rattle.py_meaning.specs.Modules.{Loaded}
+use Rattle.py_meaning.specs.Modules.{World, Loaded}
 
 -- which atom a host slot is given, by the number of its module and its own
 abbrev pub Atoms : Type 0
@@ -57,3 +57,7 @@ put_loaded atoms l = record l {
 
 abbrev pub put_images : Atoms → List (Option Loaded) → List (Option Loaded)
 put_images atoms images = map (option_map (put_loaded atoms)) images
+
+-- so an import from the host gives the atom
+abbrev pub put_world : Atoms → World → World
+put_world atoms w = record w { images = put_images atoms w.images; hosts = map (put atoms) w.hosts }

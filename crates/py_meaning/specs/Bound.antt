@@ -1,5 +1,5 @@
 -- What the globals hold that defs, classes and imports bind: where they are bound, what the statement gives over these images.
-use Rattle.std.specs.Prelude.{◌≡◌, ℕ, true, if◌then◌else◌, List, [], ◌∷◌, codes, slice_get, Some, None}
+use Rattle.std.specs.Prelude.{◌≡◌, ℕ, true, if◌then◌else◌, List, [], ◌∷◌, length, codes, slice_get, Some, None}
 use Rattle.std.specs.List.{Contains, list_all, flat_map}
 use Rattle.std.specs.Option.{option_and_then, option_map}
 use Rattle.std.specs.Str.{bytes_eq}
@@ -66,8 +66,14 @@ pub record AllBound (w : World) (s : State) : Type 0 where
   pub own : (m : ℕ) → (is_own w m ≡ true) → AreBound w m w.own s.globals
   pub images : (m : ℕ) (l : Loaded) → image_at w m ≡ Some l → AreBound w m (record { tree = l.tree; facts = l.image.facts }) l.image.globals
 
+-- each host slot of the own module, which has that number, holds its host value or an atom
+pub record HoldHosts (w : World) (m : ℕ) : Type 0 where
+  pub as_many : length w.hosts ≡ length w.own.facts.hosts
+  pub each : (n : ℕ) (value : Value) → slice_get w.hosts n ≡ Some value → IsHostOrAtom m n value
+
 -- a world, a state, and the values with which a run begins belong together
 pub record BelongTogether (w : World) (s : State) (begins : List Value) : Type 0 where
   pub formed : IsWellFormed w s
   pub bound : AllBound w s
+  pub hosts : (m : ℕ) → is_own w m ≡ true → HoldHosts w m
   pub values : list_all (value_stands w s) begins ≡ true

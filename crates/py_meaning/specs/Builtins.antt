@@ -18,7 +18,7 @@ use Rattle.py_meaning.specs.Acts.{Act, ◌>>=◌, ◌>>◌, give, pay, choose}
 use Rattle.py_meaning.specs.Modules.{World}
 use Rattle.py_meaning.specs.Classes.{is_below}
 use Rattle.py_meaning.specs.Looks as seen
-use Rattle.py_meaning.specs.Looks.{Seen, look, raise, type_error, make, print_out}
+use Rattle.py_meaning.specs.Looks.{Seen, look, raise, type_error, or_type_error, make, print_out}
 use Rattle.py_meaning.specs.Operands.{operand, answered, by_table, number, is_true, range_count}
 use Rattle.py_meaning.specs.Comparisons.{ordered}
 use Rattle.py_meaning.specs.TextForms.{say, then_say, repr, str}
@@ -31,9 +31,9 @@ look_all w (x ∷ xs) = do
   rest ← look_all w xs
   give (a ∷ rest)
 
--- by the operator table
-abbrev pub tabled : World → op.Callee → Value → Act Value
-tabled w callee x = look w x >>= λ a. by_table w (op.Call callee (operand a ∷ []))
+-- a builtin of one argument, by the operator table
+abbrev pub called_by_table : World → op.Callee → Value → Act Value
+called_by_table w callee x = look w x >>= λ a. by_table w (op.Call callee (operand a ∷ []))
 
 -- ---- print, str, repr, bool
 
@@ -127,10 +127,6 @@ is_of_type (seen.Tuple vs) builtin.Tuple = Some true
 is_of_type a builtin.Tuple = Some false
 is_of_type a other = None
 
-abbrev pub or_type_error : World → Option Bool → Act Bool
-or_type_error w None = type_error w
-or_type_error w (Some b) = give b
-
 abbrev pub is_of : World → Seen → Seen → Act Bool
 is_of w a (seen.Class class) = give (is_of_class w a class)
 is_of w a (seen.BuiltIn b) = or_type_error w (is_of_type a b)
@@ -176,10 +172,10 @@ builtin_result w builtin.Tuple (x ∷ []) = gather w x >>= λ vs. give (v.Tuple 
 builtin_result w builtin.Dict [] = make w (v.Mapped [])
 builtin_result w builtin.Dict (x ∷ []) = look w x >>= copied_dict w
 builtin_result w builtin.Int [] = give (v.Int (pos 0))
-builtin_result w builtin.Int (x ∷ []) = tabled w op.ToInt x
-builtin_result w builtin.Abs (x ∷ []) = tabled w op.Abs x
-builtin_result w builtin.Ord (x ∷ []) = tabled w op.Ord x
-builtin_result w builtin.Chr (x ∷ []) = tabled w op.Chr x
+builtin_result w builtin.Int (x ∷ []) = called_by_table w op.ToInt x
+builtin_result w builtin.Abs (x ∷ []) = called_by_table w op.Abs x
+builtin_result w builtin.Ord (x ∷ []) = called_by_table w op.Ord x
+builtin_result w builtin.Chr (x ∷ []) = called_by_table w op.Chr x
 builtin_result w builtin.Min args = extreme w Lt args
 builtin_result w builtin.Max args = extreme w Gt args
 builtin_result w builtin.IsInstance (x ∷ t ∷ []) = instance_test w x t

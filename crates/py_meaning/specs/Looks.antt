@@ -82,6 +82,9 @@ abbrev pub or_raise : {A : Type 0} → World → ExcKind → Option A → Act A
 or_raise w k None = raise w k
 or_raise w k (Some a) = give a
 
+abbrev pub or_type_error : {A : Type 0} → World → Option A → Act A
+or_type_error w a = or_raise w kind.TypeError a
+
 -- ---- the rules
 
 abbrev pub ask : World → Answer → Act (Unit {0})

@@ -13,7 +13,7 @@ use Rattle.gradual_types.specs.Values.{Value}
 use Rattle.py_meaning.specs.Acts.{Act, ◌>>=◌, ◌>>◌, give, pay, done}
 use Rattle.py_meaning.specs.Modules.{World}
 use Rattle.py_meaning.specs.Looks as seen
-use Rattle.py_meaning.specs.Looks.{Seen, look, see_object, raise, type_error, make, write, ask, may_write_at, home_of}
+use Rattle.py_meaning.specs.Looks.{Seen, look, see_object, raise, type_error, or_type_error, make, write, ask, may_write_at, home_of}
 use Rattle.py_meaning.specs.Operands.{operand, by_table}
 use Rattle.py_meaning.specs.PaidKeys.{key_of}
 use Rattle.py_meaning.specs.Iterables.{gather, shown_keys}
@@ -23,10 +23,6 @@ use Rattle.py_meaning.specs.Iterables.{gather, shown_keys}
 abbrev pub text_in : Seen → Option Text
 text_in (seen.Points text) = Some text
 text_in other = None
-
-abbrev pub or_type_error : World → Option Text → Act Text
-or_type_error w None = type_error w
-or_type_error w (Some text) = give text
 
 -- all items are tested, in order
 abbrev pub texts_of : World → List Value → Act (List Text)

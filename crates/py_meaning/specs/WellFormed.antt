@@ -11,7 +11,7 @@ use Rattle.py_values.specs.declared.value.Home.{Home}
 use Rattle.py_values.specs.declared.value.Home.TheVariants as home
 use Rattle.key_map.specs.Keys as key
 use Rattle.key_map.specs.Keys.{Key, Keys, same}
-use Rattle.key_map.specs.Entries.{Entry}
+use Rattle.key_map.specs.Entries.{Entry, keys_in}
 use Rattle.symbols.specs.Bindings.{globals}
 use Rattle.symbols.specs.Words.{among}
 use Rattle.gradual_types.specs.declared.facts.ClassFacts.{ClassFacts}
@@ -24,6 +24,7 @@ use Rattle.py_meaning.specs.Classes.{class_facts, line_of, slots_of, same_class,
 use Rattle.py_meaning.specs.Comparisons.{same_builtin}
 use Rattle.py_meaning.specs.Looks.{objects_of}
 use Rattle.py_meaning.specs.Calls.{defaults_of, params_of}
+use Rattle.py_meaning.specs.Runs.{opened_objects}
 
 -- ---- functions and classes that a value names
 
@@ -85,6 +86,9 @@ has_method w s other method = false
 
 -- ---- values
 
+-- Of ints outside of 64 bits and of ranges with step 0 nothing is asked here, and none comes about: evaluation owes that it raises in their place
+-- (`as_int` and `range_of`), who reads literals and atoms that they are no larger, and who keeps a state has ints of 64 bits by its type and owes
+-- the step where it makes a range.
 abbrev mutual
   pub value_stands : World → State → Value → Bool
   value_stands w s (v.Prim64 n) = false
@@ -94,7 +98,7 @@ abbrev mutual
   value_stands w s (v.Object h n) = is_some (slice_get (objects_of w h s) n)
   value_stands w s (v.Class c) = line_stands w s c
   value_stands w s (v.Function m n) = function_stands w s m n
-  value_stands w s (v.Module m) = is_some (image_at w m)
+  value_stands w s (v.Module m) = is_some (text_of w m)
   value_stands w s (v.Host m n) = host_slot_stands w m n
   value_stands w s other = true
 
@@ -143,9 +147,14 @@ shows (Some shown) k = same shown k
 abbrev pub entry_stands : World → State → Entry Value Value → Bool
 entry_stands w s e = shows (key_for e.shown) e.key && (value_stands w s e.shown && value_stands w s e.value)
 
+-- no two are the same
+abbrev pub are_distinct : List Key → Bool
+are_distinct [] = true
+are_distinct (k ∷ ks) = not (list_any (same k) ks) && are_distinct ks
+
 abbrev pub content_stands : World → State → Content → Bool
 content_stands w s (v.Listed vs) = list_all (value_stands w s) vs
-content_stands w s (v.Mapped es) = list_all (entry_stands w s) es
+content_stands w s (v.Mapped es) = are_distinct (keys_in es) && list_all (entry_stands w s) es
 content_stands w s (v.Instance c slots) = line_stands w s c && (length slots == length (slots_of w c) && list_all (some_stands w s) slots)
 
 -- ---- a world and a state
@@ -156,10 +165,11 @@ variable_stands w s x = some_stands w s x.value
 abbrev pub default_stands : World → State → Default → Bool
 default_stands w s d = value_stands w s d.value
 
+-- where it is bound
 abbrev pub is_known_name : Statements → Variable → Bool
-is_known_name body x = among x.name (globals body)
+is_known_name body x = is_none x.value || among x.name (globals body)
 
--- the globals of an image are those of its tree, and what they, its objects and its default values hold is there
+-- the bound globals of an image are globals of its tree, and what they, its objects and its default values hold is there
 abbrev pub image_stands : World → State → Option Loaded → Bool
 image_stands w s None = true
 image_stands w s (Some l) =
@@ -196,4 +206,5 @@ all_stand w s =
 pub record IsWellFormed (w : World) (s : State) : Type 0 where
   pub values : all_stand w s ≡ true
   pub names : map (λ x. x.name) s.globals ≡ globals w.own.tree  -- each bound or unbound, in order
+  pub others : map length s.others ≡ map length (opened_objects w.images)  -- as many of each module as its image has
   pub lines : (c : ClassId) → is_some (class_facts w c) ≡ true → line_goes_on w c (line_of w c) ≡ true

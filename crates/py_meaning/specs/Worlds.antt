@@ -9,7 +9,6 @@ use Rattle.gradual_types.specs.Values as v
 use Rattle.gradual_types.specs.Values.{Value}
 use Rattle.gradual_types.specs.States.{State}
 use Rattle.py_meaning.specs.Modules.{World, Loaded}
-use Rattle.py_meaning.specs.Modes.{entry_mode}
 use Rattle.py_meaning.specs.ModuleFacts.{facts_of}
 use Rattle.py_meaning.specs.Outers.{outer_of}
 
@@ -25,7 +24,7 @@ abbrev pub host_slots : ℕ → ℕ → List Text → List Value
 host_slots m n [] = []
 host_slots m n (name ∷ names) = v.Host m n ∷ host_slots m (suc n) names
 
--- ---- the body of a module
+-- ---- the body of a module: that module is the own one, and no image of it is there before its body has run
 
 -- before its facts are known, which they are by what its imports bind
 abbrev pub bare_world : Mode → List (Option Loaded) → ℕ → Statements → World
@@ -51,11 +50,12 @@ body_world mode images name number body = record (bare_world mode images number 
 abbrev pub loaded : World → State → Loaded
 loaded w s = record { tree = w.own.tree; image = record { facts = w.own.facts; globals = s.globals; objects = s.own; defaults = s.defaults } }
 
--- ---- an entry
+-- ---- a call with no module of its own, as that of an entry: its program is the empty one, and what it makes is the run's
 
-abbrev pub entry_world : List (Option Loaded) → World
-entry_world images = record {
-  mode = entry_mode;
+-- under the rules of entries, or under those that let all go
+abbrev pub entry_world : Mode → List (Option Loaded) → World
+entry_world mode images = record {
+  mode = mode;
   home = home.Run;
   own = record { tree = x.end_of_statements; facts = no_facts };
   images = images;

@@ -1,6 +1,6 @@
 ghost use Rattle.py_meaning.specs.Laws.{FuelNeverRises, OutputOnlyGrows, ChecksNeverFall, ObjectsStay};
 ghost use Rattle.py_meaning.specs.Laws.{OthersUnchanged, OutputUnchanged, ImportsKeepIn, EntriesKeepIn};
-ghost use Rattle.py_meaning.specs.Laws.{SameBuiltins, TicksLowerFuel, CallsEndWithFuel, BodiesEndWithFuel, LoopsEndWithFuel};
+ghost use Rattle.py_meaning.specs.Laws.{SameBuiltins, TicksLowerFuel, CallsEndWithFuel, BodiesEndWithFuel, LoopsEndWithFuel, PiecesJoin};
 
 /// No run has more fuel at its end than at its start, whatever it ends in.
 pub fn fuel_never_rises()
@@ -45,6 +45,11 @@ pub fn calls_end_with_fuel()
 /// More turns of a loop than there is fuel change nothing.
 pub fn loops_end_with_fuel()
     ensures { LoopsEndWithFuel }
+{}
+
+/// What `split` takes a text apart into is the text again once `join` has put the separator between the pieces.
+pub fn pieces_join()
+    ensures { PiecesJoin }
 {}
 
 /// The names of builtins that no module binds, as names are resolved, are those of the builtins that evaluation reads.

@@ -1,7 +1,7 @@
 -- What the definitions give for some modules.
 use Rattle.std.proofs.Common.{◌≡◌, refl, [], ◌∷◌, Some, None, codes}
 use Rattle.py_tree.specs.Syntax as x
-use Rattle.py_tree.specs.Syntax.{Text, Expression, Kind, Statement, Statements, Function}
+use Rattle.py_tree.specs.Syntax.{Text, Expression, Kind, Statement, Statements}
 use Rattle.symbols.specs.declared.outer.Outer.{Outer}
 use Rattle.symbols.specs.Bindings.{locals}
 use Rattle.symbols.specs.Classes.{classes}

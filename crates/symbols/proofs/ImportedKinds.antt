@@ -1,20 +1,23 @@
 -- Where the classes of imports stand among those of all.
-use Rattle.std.proofs.Common.{◌≡◌, ◌∙◌, ◌+◌, ◌<◌, ℕ, Bool, true, false, zero, suc, List, [], ◌∷◌, ◌++◌, length, take, Some, None, refl, sym, ap, subst, append_assoc, arith, length-append, get_or, zero-add, add_assoc, ◌⊎◌, inl, inr}
+use Rattle.std.proofs.Common.{◌≡◌, ◌∙◌, ◌+◌, ◌<◌, ℕ, zero, suc, List, [], ◌∷◌, ◌++◌, length, take, Option, Some, None, refl, sym, ap, subst, append_assoc, arith, length-append, zero-add, add_assoc, ◌⊎◌, inl, inr}
 use Rattle.std.specs.Prelude.{slice_get}
 use Rattle.std.specs.List.{find}
 use Rattle.std.specs.Str.{bytes_eq}
-use Rattle.std.specs.Option.{option_map, option_or}
-use Rattle.std.proofs.lemmas.List.Folds.{find-append}
+use Rattle.std.specs.Option.{option_map}
 use Rattle.std.proofs.lemmas.Option.{slice_get-map, slice_get_within}
-use Rattle.std.proofs.lemmas.List.{take_more, append-nil, length-map}
+use Rattle.std.proofs.lemmas.List.{append-nil, length-map}
 use Rattle.py_tree.specs.Syntax.{Text}
 use Rattle.symbols.specs.declared.class.ClassKind.{ClassKind}
+use Rattle.symbols.specs.declared.name_map.NameMap.{NameMap}
 use Rattle.symbols.specs.declared.outer.Outer.{Outer}
 use Rattle.symbols.specs.declared.outer.OuterBinding.{OuterBinding}
+use Rattle.symbols.specs.declared.outer.OuterKind.{OuterKind}
 use Rattle.symbols.specs.declared.outer.OuterKind.TheVariants as outer
 use Rattle.symbols.specs.declared.outer.ModuleClass.{ModuleClass}
 use Rattle.symbols.specs.Classes.{class_kind, class_of_module, kind_of_member, kind_of_outer, module_classes, outer_kind}
 use Rattle.symbols.specs.ClassViews.{StandsAt, kinds_in, kinds_of}
+use Rattle.symbols.specs.Names.{found}
+use Rattle.symbols.specs.Places.{AreMembers, ArePlaces, IsPlace, found_inside, member_name}
 
 pub slice_get-front : {X : Type 0} (xs ys : List X) (i : ℕ) → i < length xs → slice_get (xs ++ ys) i ≡ slice_get xs i
 slice_get-front [] ys i h = absurd (omega (arith, h))
@@ -82,20 +85,46 @@ member_stands o from name place start inside b cs found at is begin within first
 pub no_member : (o : Outer) (from name : Text) (place : ℕ) (b : OuterBinding) → find (λ x. bytes_eq from x.name) o.bindings ≡ slice_get o.bindings place → slice_get o.bindings place ≡ Some b → class_of_module (module_classes b.kind) name ≡ None → class_of_module (module_classes (outer_kind o from)) name ≡ None
 no_member o from name place b found at none = ap (λ f. class_of_module (module_classes (kind_of_outer f)) name) (found ∙ at) ∙ none
 
--- the first that passes a test
-pub find_here : {X : Type 0} (test : X → Bool) (xs : List X) (i : ℕ) (x : X) → i < length xs → x ≡ get_or xs i x → find test (take i xs) ≡ None → test x ≡ true → find test xs ≡ slice_get xs i
-find_here test [] i x h is none t = absurd (omega (arith, h))
-find_here {X} test (y ∷ xs) zero x h is none t = let s : test y ≡ true = subst (λ (z : X). test z ≡ true) is t in rw s refl
-find_here {X} test (y ∷ xs) (suc i) x h is none t = by (test y) refl none (λ n. find_here test xs i x (omega (arith, h)) is n t)
-  where
-    by : (b : Bool) → test y ≡ b → find test (y ∷ take i xs) ≡ None → (find test (take i xs) ≡ None → find test xs ≡ slice_get xs i) → find test (y ∷ xs) ≡ slice_get xs i
-    by true e n more = let gone : Some y ≡ None = rw e at n in cc (gone)
-    by false e n more = let rest : find test (take i xs) ≡ None = rw e at n in rw e (more rest)
+-- a class stands in a module alone
+pub is_module : (k : OuterKind) (i : ℕ) → i < length (module_classes k) → k ≡ outer.Module (module_classes k)
+is_module (outer.Class c) i h = absurd (omega (arith, h))
+is_module (outer.Module cs) i h = refl
+is_module outer.Other i h = absurd (omega (arith, h))
 
-pub find_more : {X : Type 0} (test : X → Bool) (xs : List X) (i : ℕ) (x : X) → i < length xs → x ≡ get_or xs i x → find test (take i xs) ≡ None → test x ≡ false → find test (take (i + 1) xs) ≡ None
-find_more {X} test xs i x h is none t =
-    ap (find test) (take_more xs i x h ∙ ap (λ (y : X). take i xs ++ y ∷ []) (sym is))
-    ∙ (find-append test (take i xs) (x ∷ []) ∙ (ap (λ o. option_or o (find test (x ∷ []))) none ∙ rw t refl))
+-- the class of that name where a binding has one, and else none
+pub member_found : (o : Outer) (from name : Text) (place : ℕ) (inside : Option ℕ) (members : List (NameMap ℕ)) → AreMembers o.bindings members → IsPlace (λ (b : OuterBinding). bytes_eq from b.name) o.bindings (Some place)
+    → inside ≡ found_inside (slice_get members place) name → (b : OuterBinding) × ((slice_get o.bindings place ≡ Some b) × IsPlace (λ (c : ModuleClass). bytes_eq name c.name) (module_classes b.kind) inside)
+member_found o from name place inside members all p is =
+    let b : (x : OuterBinding) × (slice_get o.bindings place ≡ Some x) = there o.bindings place p.0 in
+    let m : (places : NameMap ℕ) × ((slice_get members place ≡ Some places) × ArePlaces member_name (module_classes (b.0).kind) places) = all place b.0 b.1 in
+    let same : inside ≡ found m.0 name = is ∙ ap (λ (q : Option (NameMap ℕ)). found_inside q name) (m.1).0 in
+    (b.0, (b.1, subst (λ (q : Option ℕ). IsPlace (λ (c : ModuleClass). bytes_eq name c.name) (module_classes (b.0).kind) q) (sym same) ((m.1).1 name)))
+
+pub some_member : (o : Outer) (from name : Text) (place start inside : ℕ) (members : List (NameMap ℕ)) → AreMembers o.bindings members → IsPlace (λ (b : OuterBinding). bytes_eq from b.name) o.bindings (Some place)
+    → Some inside ≡ found_inside (slice_get members place) name → start ≡ length (kinds_of (take place o.bindings))
+    → (start + inside < length (kinds_of o.bindings)) × StandsAt (kinds_of o.bindings) (class_of_module (module_classes (outer_kind o from)) name) (Some (start + inside))
+some_member o from name place start inside members all p is begin =
+    let m : (b : OuterBinding) × ((slice_get o.bindings place ≡ Some b) × IsPlace (λ (c : ModuleClass). bytes_eq name c.name) (module_classes b.kind) (Some inside)) = member_found o from name place (Some inside) members all p is in
+    let q : IsPlace (λ (c : ModuleClass). bytes_eq name c.name) (module_classes (m.0).kind) (Some inside) = (m.1).1 in
+    member_stands o from name place start inside m.0 (module_classes (m.0).kind) p.1 (m.1).0 (is_module (m.0).kind inside q.0) begin q.0 q.1
+
+pub none_member : (o : Outer) (from name : Text) (place : ℕ) (members : List (NameMap ℕ)) → AreMembers o.bindings members → IsPlace (λ (b : OuterBinding). bytes_eq from b.name) o.bindings (Some place)
+    → None ≡ found_inside (slice_get members place) name → class_of_module (module_classes (outer_kind o from)) name ≡ None
+none_member o from name place members all p is =
+    let m : (b : OuterBinding) × ((slice_get o.bindings place ≡ Some b) × IsPlace (λ (c : ModuleClass). bytes_eq name c.name) (module_classes b.kind) None) = member_found o from name place None members all p is in
+    no_member o from name place m.0 p.1 (m.1).0 (ap kind_of_member (m.1).1)
+
+-- one binding more
+pub members-push : (bs : List OuterBinding) (ms : List (NameMap ℕ)) (b : OuterBinding) (m : NameMap ℕ) → length ms ≡ length bs → AreMembers bs ms → ArePlaces member_name (module_classes b.kind) m → AreMembers (bs ++ b ∷ []) (ms ++ m ∷ [])
+members-push [] [] b m e all one zero x at = (m, (refl, subst (λ (y : OuterBinding). ArePlaces member_name (module_classes y.kind) m) (same_binding at) one))
+  where
+    same_binding : {y : OuterBinding} → Some y ≡ Some x → y ≡ x
+    same_binding f = cc (f)
+members-push [] [] b m e all one (suc i) x at = cc (at)
+members-push [] (y ∷ ms) b m e all one i x at = absurd (omega (arith, e))
+members-push (y ∷ bs) [] b m e all one i x at = absurd (omega (arith, e))
+members-push (y ∷ bs) (z ∷ ms) b m e all one zero x at = all zero x at
+members-push (y ∷ bs) (z ∷ ms) b m e all one (suc i) x at = members-push bs ms b m (omega (arith, e)) (λ place c is. all (suc place) c is) one i x at
 
 -- one start more
 pub starts-push : (bs : List OuterBinding) (i : ℕ) (starts now : List ℕ) (start : ℕ) → now ≡ starts ++ start ∷ [] → start ≡ length (kinds_of (take i bs)) → length starts ≡ i

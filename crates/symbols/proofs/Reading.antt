@@ -1,12 +1,11 @@
 -- A class with its bases, read by the classes above it.
-use Rattle.std.proofs.Common.{◌≡◌, ◌∙◌, ◌+◌, ◌<◌, ◌≤◌, ◌||◌, ℕ, zero, suc, Bool, true, false, List, [], ◌∷◌, ◌++◌, map, length, take, Option, Some, None, refl, sym, ap, subst, arith}
+use Rattle.std.proofs.Common.{◌≡◌, ◌∙◌, ◌<◌, ◌≤◌, ◌||◌, ℕ, Bool, true, false, List, [], ◌∷◌, ◌++◌, length, take, Option, Some, None, refl, sym, ap, subst, arith}
 use Rattle.std.specs.Prelude.{slice_get}
 use Rattle.std.specs.Option.{option_map}
 use Rattle.std.specs.Str.{bytes_eq}
 use Rattle.std.proofs.lemmas.List.{length-map, length-take-le}
 use Rattle.std.proofs.lemmas.Option.{slice_get-map, slice_get_past, slice_get_within}
 use Rattle.py_tree.specs.Syntax.{Text}
-use Rattle.py_values.specs.declared.class_id.ClassId.{ClassId}
 use Rattle.py_values.specs.declared.class_id.ClassId.TheVariants as id
 use Rattle.symbols.specs.declared.class.BasePlace.{BasePlace}
 use Rattle.symbols.specs.declared.class.BasePlace.TheVariants as place

@@ -17,7 +17,7 @@ use Rattle.symbols.specs.ModuleKinds.{module_kind}
 
 -- each list is the definition's
 pub record IsResolved (o : Outer) (m : Module) (r : Resolved) : Type 0 where
-  pub tree : r.tree.now ≡ m
+  pub tree : r.tree ≡ m
   pub name : r.name ≡ o.name
   pub number : r.number ≡ o.number
   pub kind : r.kind ≡ module_kind (module_of m)

@@ -2,7 +2,7 @@
 use Rattle.std.specs.Prelude.{ℕ, List, [], ◌∷◌, map}
 use Rattle.std.specs.List.{flat_map}
 use Rattle.py_tree.specs.Syntax as x
-use Rattle.py_tree.specs.Syntax.{Text, Statement, Kind, Statements, Function, ClassDef}
+use Rattle.py_tree.specs.Syntax.{Statement, Kind, Statements, Function, ClassDef}
 use Rattle.py_tree.specs.Order.{of_scope}
 use Rattle.symbols.specs.declared.resolved.FunctionLocals.{FunctionLocals}
 use Rattle.symbols.specs.Bindings.{locals}

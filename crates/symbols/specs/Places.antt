@@ -3,8 +3,9 @@ use Rattle.std.specs.Prelude.{◌≡◌, ◌<◌, ℕ, Bool, List, length, slice
 use Rattle.std.specs.List.{find}
 use Rattle.std.specs.Str.{bytes_eq}
 use Rattle.py_tree.specs.Syntax.{Text}
-use Rattle.symbols.specs.Classes.{Found}
+use Rattle.symbols.specs.Classes.{Found, module_classes}
 use Rattle.symbols.specs.declared.name_map.NameMap.{NameMap}
+use Rattle.symbols.specs.declared.outer.ModuleClass.{ModuleClass}
 use Rattle.symbols.specs.declared.outer.OuterBinding.{OuterBinding}
 use Rattle.symbols.specs.ClassViews.{kinds_of}
 use Rattle.symbols.specs.Names.{found}
@@ -25,3 +26,15 @@ outer_name b = b.name
 -- where the classes of each binding begin among those of all
 abbrev pub AreStarts : List OuterBinding → List ℕ → Type 0
 AreStarts bindings starts = (place : ℕ) → place < length bindings → slice_get starts place ≡ Some (length (kinds_of (take place bindings)))
+
+abbrev pub member_name : ModuleClass → Text
+member_name c = c.name
+
+-- for each binding, where the first class of each name stands in what it is bound to
+abbrev pub AreMembers : List OuterBinding → List (NameMap ℕ) → Type 0
+AreMembers bindings members = (place : ℕ) (b : OuterBinding) → slice_get bindings place ≡ Some b → (places : NameMap ℕ) × ((slice_get members place ≡ Some places) × ArePlaces member_name (module_classes b.kind) places)
+
+-- the place of a name among those of a binding
+abbrev pub found_inside : Option (NameMap ℕ) → Text → Option ℕ
+found_inside None name = None
+found_inside (Some places) name = found places name

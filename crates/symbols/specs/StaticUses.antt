@@ -3,7 +3,7 @@
 use Rattle.std.specs.Prelude.{ℕ, List, [], ◌∷◌, ◌++◌, Option, Some, None}
 use Rattle.std.specs.List.{flat_map}
 use Rattle.py_tree.specs.Syntax as x
-use Rattle.py_tree.specs.Syntax.{Text, Expression, Expressions, Pairs, Keywords, Param, Target, Kind, Statements, Branches, Clauses, Function, ClassDef}
+use Rattle.py_tree.specs.Syntax.{Expression, Expressions, Pairs, Keywords, Param, Target, Kind, Statements, Branches, Clauses, Function, ClassDef}
 use Rattle.symbols.specs.declared.binding.Binding.{Binding}
 use Rattle.symbols.specs.declared.binding.StaticName.{StaticName}
 use Rattle.symbols.specs.declared.resolved.ModuleKind.{ModuleKind}

@@ -1,13 +1,11 @@
 ghost use Rattle.std.specs.Prelude.{◌≡◌, ◌+◌, ◌<◌, ◌++◌, Some, IfOk, OnOk, length, map, slice_get};
-ghost use Rattle.std.specs.Str.{bytes_eq};
 ghost use Rattle.symbols.specs.Classes.{class_kind, class_of_module, module_classes, outer_kind};
 ghost use Rattle.symbols.specs.ClassViews.{StandsAt, kinds_in, kinds_of};
-ghost use Rattle.symbols.specs.Places.{ArePlaces, AreStarts, IsPlace, outer_name};
+ghost use Rattle.symbols.specs.Places.{AreMembers, ArePlaces, AreStarts, found_inside, member_name, outer_name};
 
 use crate::class::ClassKind;
 use crate::name_map::NameMap;
 use crate::outer::{ModuleClass, Outer, OuterBinding, OuterKind};
-use crate::words::is_same;
 use lists::{ElementAt, Items};
 use py_tree::expression::Texts;
 use py_tree::text::Text;
@@ -20,6 +18,8 @@ pub(crate) struct Imported<'a> {
     outer: &'a Outer,
     /// The place of the first binding of each name.
     places: NameMap<'a, usize>,
+    /// For each binding the place of the first class of each name in what it is bound to.
+    members: Vec<NameMap<'a, usize>>,
     /// The classes of all bindings, in their order.
     kinds: Items<ClassKind>,
     /// Where those of each binding begin.
@@ -34,7 +34,7 @@ impl<'a> Model for Imported<'a> {
 
     ghost view = { λ table. table.outer.now };
 
-    ghost invariant = { λ table. IsImportTable table.outer.now.bindings table.places table.kinds table.starts.items };
+    ghost invariant = { λ table. IsImportTable table.outer.now.bindings table.places table.members.items table.kinds table.starts.items };
 }
 
 impl<'a> Imported<'a> {
@@ -43,11 +43,13 @@ impl<'a> Imported<'a> {
     {
         let bindings = outer.bindings.as_slice();
         let places = places_of(alloc, bindings)?;
+        let members = members_of(alloc, bindings)?;
         let kinds = kinds_of(alloc, bindings)?;
         let starts = starts_of(alloc, bindings)?;
         Ok(Imported {
             outer,
             places,
+            members,
             kinds,
             starts,
         })
@@ -66,6 +68,7 @@ impl<'a> Imported<'a> {
         let Imported {
             outer: _,
             places: _,
+            members: _,
             kinds,
             starts: _,
         } = self;
@@ -88,14 +91,9 @@ impl<'a> Imported<'a> {
         ensures { StandsAt (kinds_of self.now.bindings) (class_of_module (module_classes (outer_kind self.now from.now)) name.now) result }
     {
         let place = self.places.get(from)?;
-        match &self.outer.bindings.at(place).kind {
-            OuterKind::Module(classes) => {
-                let inside = class_place(classes.as_slice(), name)?;
-                let start = start_at(self.starts.as_slice(), place)?;
-                number_behind(self.kinds.as_slice(), start, inside)
-            }
-            _ => None,
-        }
+        let inside = place_inside(self.members.as_slice(), place, name)?;
+        let start = start_at(self.starts.as_slice(), place)?;
+        number_behind(self.kinds.as_slice(), start, inside)
     }
 }
 
@@ -118,16 +116,14 @@ fn number_behind(kinds: &[ClassKind], start: usize, inside: usize) -> Option<usi
     }
 }
 
-/// The place of the first class of that name.
-fn class_place(classes: &[ModuleClass], name: &Text) -> Option<usize>
-    ensures { IsPlace (λ c. bytes_eq name.now c.name) classes.now result }
+/// The place of the first class of that name in what the binding at a place is bound to.
+fn place_inside(members: &[NameMap<'_, usize>], place: usize, name: &Text) -> Option<usize>
+    ensures { result ≡ found_inside (slice_get members.now place) name.now }
 {
-    for (place, class) in classes.iter().enumerate() {
-        if is_same(name, &class.name) {
-            return Some(place);
-        }
+    match members.get(place) {
+        Some(places) => places.get(name),
+        None => None,
     }
-    None
 }
 
 /// The place of the first binding of each name.
@@ -137,6 +133,41 @@ fn places_of(alloc: Global, bindings: &[OuterBinding]) -> Result<NameMap<'_, usi
     let mut places = NameMap::new(alloc);
     for (place, binding) in bindings.iter().enumerate() {
         places.keep(&binding.name, place)?;
+    }
+    Ok(places)
+}
+
+/// For each binding the place of the first class of each name in what it is bound to.
+fn members_of(
+    alloc: Global,
+    bindings: &[OuterBinding],
+) -> Result<Vec<NameMap<'_, usize>>, AllocError>
+    ensures { IfOk result (λ members. AreMembers bindings.now members.items) }
+{
+    let mut members = Vec::with_capacity(alloc, bindings.len())?;
+    for binding in bindings {
+        members.push(members_in(alloc, &binding.kind)?)?;
+    }
+    Ok(members)
+}
+
+/// The place of the first class of each name in what an import binds.
+fn members_in(alloc: Global, kind: &OuterKind) -> Result<NameMap<'_, usize>, AllocError>
+    ensures { IfOk result (λ places. ArePlaces member_name (module_classes kind.now) places) }
+{
+    match kind {
+        OuterKind::Module(classes) => class_places(alloc, classes.as_slice()),
+        _ => Ok(NameMap::new(alloc)),
+    }
+}
+
+/// The place of the first class of each name.
+fn class_places(alloc: Global, classes: &[ModuleClass]) -> Result<NameMap<'_, usize>, AllocError>
+    ensures { IfOk result (λ places. ArePlaces member_name classes.now places) }
+{
+    let mut places = NameMap::new(alloc);
+    for (place, class) in classes.iter().enumerate() {
+        places.keep(&class.name, place)?;
     }
     Ok(places)
 }

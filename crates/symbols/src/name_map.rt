@@ -15,6 +15,7 @@ pub struct NameMap<'a, V> {
 }
 
 impl<'a, V: Copy> NameMap<'a, V> {
+    /// No names.
     pub fn new(alloc: Global) -> NameMap<'a, V>
         ensures { (name : Name) → found result name ≡ None }
     {

@@ -28,13 +28,13 @@ use py_tree::fault::Stop;
 use py_tree::statement::{Function, Module, Stmt};
 use std::alloc::{AllocError, Global};
 
-/// The names of a module (Python reference: naming and binding). In time linear in its text, but for
-/// the search of a base among the classes of an imported module.
+/// The names of a module (Python reference: naming and binding). In time linear in its text and in the
+/// classes that its imports bind.
 ///
 /// # Errors
 ///
 /// The first fault of a name: on the least line, and of those on one line the one with the least code.
-pub fn resolve<'a>(alloc: Global, tree: &'a Module, outer: &Outer) -> Result<Resolved<'a>, Stop>
+pub fn resolve(alloc: Global, tree: &Module, outer: &Outer) -> Result<Resolved, Stop>
     requires { lawful (module_of tree.now) ≡ true }
     // What is answered is so.
     ensures right { Right outer.now tree.now result }
@@ -60,13 +60,13 @@ pub fn one_binding()
     ensures { EachUseIsBound }
 {}
 
-fn resolve_parts<'a>(
+fn resolve_parts(
     alloc: Global,
-    tree: &'a Module,
+    tree: &Module,
     outer: &Outer,
     parts: &Parts<'_>,
     classes: FoundClasses,
-) -> Result<Resolved<'a>, Stop>
+) -> Result<Resolved, Stop>
     requires lawful { lawful (module_of tree.now) ≡ true }
     requires parts { IsPartsOf (module_of tree.now) parts.now }
     requires found { founds classes ≡ found_classes outer.now (module_of tree.now) }
@@ -80,13 +80,13 @@ fn resolve_parts<'a>(
 }
 
 /// The lists of a module's names.
-fn listed<'a>(
+fn listed(
     alloc: Global,
-    tree: &'a Module,
+    tree: &Module,
     outer: &Outer,
     parts: &Parts<'_>,
     classes: Classes,
-) -> Result<Resolved<'a>, AllocError>
+) -> Result<Resolved, AllocError>
     requires lawful { lawful (module_of tree.now) ≡ true }
     requires parts { IsPartsOf (module_of tree.now) parts.now }
     requires classes { classes ≡ spec_classes outer.now (module_of tree.now) }
@@ -97,8 +97,9 @@ fn listed<'a>(
     let kind = module_kind(parts.body);
     let statics = static_uses(alloc, kind, parts.bindings, parts.body)?;
     let name = outer.name.copy(alloc)?;
+    let copy = tree.copy(alloc)?;
     Ok(Resolved {
-        tree,
+        tree: copy,
         name,
         number: outer.number,
         kind,

@@ -30,8 +30,8 @@ pub type FunctionsLocals = Items<FunctionLocals>;
 
 /// A module with what its names are. Its statements stand where they may.
 #[derive(Drop)]
-pub struct Resolved<'a> {
-    pub tree: &'a Module,
+pub struct Resolved {
+    pub tree: Module,
     pub name: Text,
     /// The number of the module, from 0.
     pub number: u32,
@@ -40,5 +40,5 @@ pub struct Resolved<'a> {
     pub classes: Classes,
     pub functions: FunctionsLocals,
     pub statics: StaticUses,
-    pub ghost is_lawful: { lawful (module_of tree.now) ≡ true },
+    pub ghost is_lawful: { lawful (module_of tree) ≡ true },
 }

@@ -2,6 +2,7 @@ use crate::outer::outer;
 use crate::tokens::{put_characters, put_stop};
 use anyhow::Result;
 use module_load::preparing::parse;
+use py_tree::fault::Stop;
 use py_tree::text::Text;
 use py_values::class_id::ClassId;
 use std::alloc::Global;
@@ -27,20 +28,20 @@ pub enum NameList {
 /// That of the names of the module that the text spells, or their first fault.
 pub fn listed(alloc: Global, list: NameList, text: &str) -> Result<String> {
     let mut out = String::new(alloc);
-    match parse(alloc, text.as_bytes()) {
-        Ok(tree) => {
-            let outer = outer(alloc)?;
-            match resolve(alloc, &tree, &outer) {
-                Ok(names) => put_list(alloc, list, &names, &mut out)?,
-                Err(stop) => put_stop(&mut out, stop)?,
-            }
-        }
+    match names(alloc, text) {
+        Ok(names) => put_list(alloc, list, &names, &mut out)?,
         Err(stop) => put_stop(&mut out, stop)?,
     }
     Ok(out)
 }
 
-fn put_list(alloc: Global, list: NameList, names: &Resolved<'_>, out: &mut String) -> Result<()> {
+fn names(alloc: Global, text: &str) -> Result<Resolved, Stop> {
+    let tree = parse(alloc, text.as_bytes())?;
+    let outer = outer(alloc)?;
+    resolve(alloc, &tree, &outer)
+}
+
+fn put_list(alloc: Global, list: NameList, names: &Resolved, out: &mut String) -> Result<()> {
     match list {
         NameList::Kind => Ok(write!(out, "{:?}", names.kind)?),
         NameList::Globals => put_names(names.globals.as_slice(), out),

@@ -1,4 +1,4 @@
-use Rattle.std.proofs.Common.{◌≡◌, ◌∙◌, ◌<◌, List, Some, length, subst, sym, ap, ℕ}
+use Rattle.std.proofs.Common.{◌≡◌, ◌<◌, List, Some, length, subst, sym}
 use Rattle.std.specs.Prelude.{slice_get}
 use Rattle.std.specs.Option.{option_map}
 use Rattle.symbols.specs.declared.class.Class.{Class}

@@ -1,5 +1,5 @@
 -- Down by the classes that were climbed, with the methods of each.
-use Rattle.std.proofs.Common.{◌≡◌, ◌∙◌, List, ap, refl, sym, subst}
+use Rattle.std.proofs.Common.{◌≡◌, ◌∙◌, ap, subst}
 use Rattle.symbols.specs.declared.class.BasePlace.{BasePlace}
 use Rattle.symbols.specs.declared.class.BasePlace.TheVariants as place
 use Rattle.symbols.specs.Bindings.{first_mentions}

@@ -1,6 +1,5 @@
 -- Its lists are those of the classes above it and its own.
-use Rattle.std.proofs.Common.{◌≡◌, ◌∙◌, ap, refl, List}
-use Rattle.py_tree.specs.Syntax.{Text}
+use Rattle.std.proofs.Common.{◌∙◌, ap, refl}
 use Rattle.symbols.specs.declared.class.BasePlace.{BasePlace}
 use Rattle.symbols.specs.Bindings.{first_mentions}
 use Rattle.symbols.specs.Classes.{base_id}

@@ -1,4 +1,4 @@
-use Rattle.std.proofs.Common.{◌∙◌, ap, sym, subst, length, Some, ℕ, ◌<◌, ◌≤◌}
+use Rattle.std.proofs.Common.{◌∙◌, ap, sym, subst, Some, ℕ, ◌<◌, ◌≤◌}
 use Rattle.py_values.specs.declared.class_id.ClassId.{ClassId}
 use Rattle.symbols.proofs.Reading.{earlier_named, earlier_none}
 use Rattle.symbols.proofs.class_list.FoundClasses.earlier_id.Goals as goal

@@ -1,5 +1,5 @@
 -- The name is a slot of the class, or of its base.
-use Rattle.std.proofs.Common.{◌≡◌, ◌∙◌, ◌<◌, ap, sym, subst}
+use Rattle.std.proofs.Common.{◌∙◌, ◌<◌, ap, sym, subst}
 use Rattle.symbols.specs.declared.class.BasePlace.{BasePlace}
 use Rattle.symbols.specs.Classes.{base_slots}
 use Rattle.symbols.specs.Lineages.{kind_of}

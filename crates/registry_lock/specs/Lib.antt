@@ -1,0 +1,4 @@
+pub mod Passes
+pub mod Holds
+pub mod Answer
+pub mod Lending
