@@ -12,12 +12,12 @@ use Rattle.py_meaning.specs.Definitions.{set_line}
 use Rattle.py_meaning.specs.Expressions.{eval}
 use Rattle.py_meaning.specs.Targets.{assign}
 use Rattle.py_meaning.specs.Statements.{exec_all}
-use Rattle.py_meaning.proofs.Steps.{ticked, at, seq}
+use Rattle.py_meaning.proofs.Steps.{ticked, at}
 use Rattle.py_meaning.proofs.StepsOfOperators.{truths}
 use Rattle.py_meaning.proofs.StepsOfExpressions.{evals}
 use Rattle.py_meaning.proofs.StepsOfTargets.{assigns}
 use Rattle.py_meaning.proofs.StepsOfStatements.{execs_all}
-use Rattle.py_meaning.proofs.Keeps.{Keeps, steps}
+use Rattle.py_meaning.proofs.Keeps.{Keeps, binds, steps}
 use Rattle.py_meaning.proofs.RunLaws.{fuel_falls}
 
 abbrev pub Falls : State → State → Type 0
@@ -30,18 +30,20 @@ lines_fall w k line = (steps (fuel_falls w)).sets_line (at w k) line
 module _ (w : World) {call : Oracle} (calls : (m n : ℕ) (values : List Value) → Keeps Falls (call m n values)) (k : Scope) where
   pub expressions_fall : (e : Expression) → Keeps Falls (eval (at w k) call e)
   unfolding steps
-  expressions_fall e = evals (ticked (steps (fuel_falls w))) calls k e
+  expressions_fall e = evals (ticked (steps (fuel_falls w))) {call = call} {call' = call} calls k e
 
   pub tests_fall : (e : Expression) → Keeps Falls (eval (at w k) call e >>= truth w)
   unfolding steps
-  tests_fall e = (steps (fuel_falls w)).bind (evals (ticked (steps (fuel_falls w))) calls k e) (truths (steps (fuel_falls w)))
+  tests_fall e = binds (fuel_falls w) (expressions_fall e) (truths (steps (fuel_falls w)))
 
   pub blocks_fall : (held : Option Value) (body : Statements) → Keeps Falls (exec_all (at w k) call held body)
   unfolding steps
-  blocks_fall held body = execs_all (ticked (steps (fuel_falls w))) calls k held body
+  blocks_fall held body = execs_all (ticked (steps (fuel_falls w))) {call = call} {call' = call} calls k held body
+
+  assignments_fall : (target : Target) (origin : Origin) (item : Value) → Keeps Falls (assign (at w k) call target origin item)
+  unfolding steps
+  assignments_fall target origin item = assigns (ticked (steps (fuel_falls w))) {call = call} {call' = call} calls k target origin item
 
   -- a turn of a `for`
   pub turns_fall : (target : Target) (origin : Origin) (item : Value) (held : Option Value) (body : Statements) → Keeps Falls (assign (at w k) call target origin item >> exec_all (at w k) call held body)
-  unfolding steps
-  turns_fall target origin item held body =
-      seq (steps (fuel_falls w)) (assigns (ticked (steps (fuel_falls w))) calls k target origin item) (execs_all (ticked (steps (fuel_falls w))) calls k held body)
+  turns_fall target origin item held body = binds (fuel_falls w) (assignments_fall target origin item) (λ u. blocks_fall held body)

@@ -103,7 +103,7 @@ module _ {w : World} {R : State → State → Type 0} (k : Steady w R) where
 
   -- ---- the whole
 
-  pub steps : Steps w
+  unfoldable pub steps : Steps w
   steps = record {
     both = λ A m m'. Keeps R m;
     bind = binds;
