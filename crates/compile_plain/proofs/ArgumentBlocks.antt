@@ -1,10 +1,10 @@
 -- The arguments of calls and the parts of displays, as they come onto the stack and off it again.
-use Rattle.std.proofs.Common.{◌≡◌, ℕ, zero, suc, ◌+◌, ◌*◌, List, [], ◌∷◌, ◌++◌, map, length, Option, Some, None, refl, sym, ap, ◌∙◌, subst, arith, length-append}
+use Rattle.std.proofs.Common.{◌≡◌, ℕ, zero, suc, ◌+◌, ◌*◌, List, [], ◌∷◌, ◌++◌, map, length, Some, None, refl, sym, ap, ◌∙◌, arith}
 use Rattle.py_tree.specs.Syntax as x
 use Rattle.py_tree.specs.Syntax.{Text, Expression, Expressions, Pairs, Keywords}
 use Rattle.gradual_types.specs.Values.{Value}
 use Rattle.gradual_types.specs.States.{State}
-use Rattle.py_meaning.specs.Acts.{Act, Run, Gives, Halts, and_then}
+use Rattle.py_meaning.specs.Acts.{Run, Gives, Halts}
 use Rattle.py_meaning.specs.Modules.{Setting}
 use Rattle.py_meaning.specs.Arguments.{Argument}
 use Rattle.py_meaning.specs.Calls.{Oracle}

@@ -1,18 +1,17 @@
 -- The code of assignments does what they mean.
-use Rattle.std.proofs.Common.{◌≡◌, ℕ, suc, ◌+◌, List, [], ◌∷◌, ◌++◌, map, length, Option, Some, None, Bool, true, false, refl, sym, subst, arith}
+use Rattle.std.proofs.Common.{◌≡◌, ℕ, ◌+◌, List, [], ◌∷◌, ◌++◌, map, length, Option, Some, Bool, true, false, refl, sym, subst, arith}
 use Rattle.std.specs.Prelude.{◌==◌}
 use Rattle.py_tree.specs.Syntax as x
 use Rattle.py_tree.specs.Syntax.{Text, Expression, Target}
 use Rattle.py_tree.specs.declared.operator.BinaryOp.{BinaryOp}
 use Rattle.py_values.specs.declared.exception.ExcKind.TheVariants as kind
 use Rattle.gradual_types.specs.declared.py_type.PyType.{PyType}
-use Rattle.gradual_types.specs.declared.py_type.PyType.TheVariants.{Dynamic}
 use Rattle.gradual_types.specs.Values.{Value}
 use Rattle.gradual_types.specs.States.{State}
-use Rattle.py_meaning.specs.Acts.{Act, Run, Gives, Halts, and_then, ◌>>=◌, ◌>>◌, give, done, choose}
+use Rattle.py_meaning.specs.Acts.{Run, Gives, Halts, and_then, give, choose}
 use Rattle.py_meaning.specs.Modules.{World, Setting, ModuleText, text_of}
 use Rattle.py_meaning.specs.Looks.{raise}
-use Rattle.py_meaning.specs.Boundaries.{Origin, From}
+use Rattle.py_meaning.specs.Boundaries.{Origin}
 use Rattle.py_meaning.specs.Names.{bind_name}
 use Rattle.py_meaning.specs.Iterables.{gather}
 use Rattle.py_meaning.specs.Calls.{Oracle}
@@ -20,14 +19,12 @@ use Rattle.py_meaning.specs.Expressions.{eval}
 use Rattle.py_meaning.specs.Targets.{assign_all, assign, augment}
 use Rattle.bytecode.specs.declared.instr.Cell.{Cell}
 use Rattle.bytecode.specs.declared.instr.Handler.{Handler}
-use Rattle.bytecode.specs.declared.instr.Instr.TheVariants as i
-use Rattle.bytecode.specs.Moves.{Open, spread}
+use Rattle.bytecode.specs.Moves.{Open}
 use Rattle.bytecode.specs.Blocks.{At, thrown, after, going, pushing, spreading, Leads, here}
 use Rattle.compile_plain.specs.Names.{Names}
-use Rattle.compile_plain.specs.Cells.{cell}
-use Rattle.compile_plain.specs.Expressions.{expr_end, expr_code}
+use Rattle.compile_plain.specs.Expressions.{expr_end}
 use Rattle.compile_plain.specs.Assignments.{store, assign_end, assign_code, augment_end, augment_code}
-use Rattle.compile_plain.proofs.Places.{HasAt, has_front, has_behind, expr_length}
+use Rattle.compile_plain.proofs.Places.{HasAt}
 use Rattle.compile_plain.proofs.Comes.{Comes, from, cell_step, then_comes, then_on_comes, acts}
 use Rattle.compile_plain.proofs.Sites.{site, names_at, sets}
 use Rattle.compile_plain.proofs.ExpressionBlocks.{name_gets, peel}

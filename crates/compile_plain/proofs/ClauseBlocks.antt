@@ -1,5 +1,5 @@
 -- Raising, and the clauses of a `try`.
-use Rattle.std.proofs.Common.{◌≡◌, ℕ, suc, ◌+◌, List, [], ◌∷◌, Option, Some, None, Bool, true, false, refl, sym, ap, subst}
+use Rattle.std.proofs.Common.{◌≡◌, ℕ, ◌+◌, List, [], ◌∷◌, Option, Some, None, Bool, true, false, refl, sym, ap, subst}
 use Rattle.std.specs.Prelude.{slice_get}
 use Rattle.py_tree.specs.Syntax.{Text}
 use Rattle.py_values.specs.declared.class_id.ClassId.{ClassId}
@@ -23,7 +23,7 @@ use Rattle.bytecode.specs.Moves.{Caught, Open, holding, innermost, unbound, set_
 use Rattle.bytecode.specs.Moves as moves
 use Rattle.bytecode.specs.Blocks.{Config, At, thrown, after, going, pushing, asking, Leads, here}
 use Rattle.compile_plain.specs.declared.targets.Targets.{Targets}
-use Rattle.compile_plain.specs.Names.{Names, maybe_variable, variable_of}
+use Rattle.compile_plain.specs.Names.{Names, maybe_variable}
 use Rattle.compile_plain.specs.Cells.{cell, in_clauses, in_try}
 use Rattle.compile_plain.proofs.Comes.{Comes, chain, then_on_comes, from, acts, cell_step, flowing, extends}
 use Rattle.compile_plain.proofs.Sites.{site, names_at, sets, unsets}

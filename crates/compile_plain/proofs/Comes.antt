@@ -1,10 +1,9 @@
 -- From where to where a block's run comes, as an action goes.
-use Rattle.std.proofs.Common.{◌≡◌, ℕ, zero, suc, ◌+◌, ◌≤◌, ◌<◌, List, [], ◌∷◌, ◌++◌, length, Option, Some, None, Bool, true, false, refl, sym, ap, ◌∙◌, subst, arith, append-nil}
-use Rattle.std.specs.Prelude.{slice_get, nat_le, if◌then◌else◌, ◌-◌}
+use Rattle.std.proofs.Common.{◌≡◌, ℕ, suc, ◌+◌, List, [], ◌∷◌, ◌++◌, length, Some, Bool, true, false, refl, sym, ap, ◌∙◌, subst, arith, append-nil}
+use Rattle.std.specs.Prelude.{slice_get}
 use Rattle.gradual_types.specs.Values.{Value}
 use Rattle.gradual_types.specs.States.{State}
-use Rattle.py_meaning.specs.Acts.{Act, Run, Gives, Halts, Halt, Spent, Raised, Flow, On, Returned, Broke, Continued, and_then, ◌>>=◌, ◌>>◌, give, tick, choose}
-use Rattle.py_meaning.specs.Laws.{end_of}
+use Rattle.py_meaning.specs.Acts.{Act, Run, Gives, Halts, Halt, Flow, On, Returned, Broke, Continued, and_then, choose}
 use Rattle.py_meaning.specs.Modules.{Setting}
 use Rattle.py_meaning.specs.Calls.{Oracle}
 use Rattle.bytecode.specs.declared.instr.Cell.{Cell}
@@ -12,10 +11,9 @@ use Rattle.bytecode.specs.declared.instr.Instr.{Instr}
 use Rattle.bytecode.specs.declared.instr.Handler.{Handler}
 use Rattle.bytecode.specs.Callings.{Calling}
 use Rattle.bytecode.specs.Moves.{Open, Move, pops, act, left_by, unbound_by}
-use Rattle.bytecode.specs.Blocks.{Config, At, Over, thrown, after, going, pushing, testing, asking, land, run_cell, Leads, here, next}
+use Rattle.bytecode.specs.Blocks.{Config, At, Over, after, pushing, testing, asking, land, run_cell, Leads, here, next}
 use Rattle.compile_plain.specs.declared.targets.Targets.{Targets}
-use Rattle.compile_plain.specs.Cells.{cell, line_end, line_code}
-use Rattle.compile_plain.proofs.Places.{HasAt}
+use Rattle.compile_plain.specs.Cells.{cell}
 
 -- ---- what runs give
 

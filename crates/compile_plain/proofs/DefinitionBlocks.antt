@@ -85,7 +85,7 @@ module _ (w : World) (m : ℕ) (t : ModuleText) (text : text_of w m ≡ Some t) 
           (set_defaults c call function signature n (record { name = name; kind = kind; default = o } ∷ ps))
     default_does function signature n name kind None ps pc rest s has = rest pc s has
     default_does function signature n name kind (Some e) ps pc rest s has =
-        then_on_comes c call code _ (peel w m t text class locals result call code h e pc st around s _ (has_front code pc (def.default_code names h function n pc (Some e)) _ has) (λ a y has'. acts c call code has'.0 here)) (λ y.
+        then_on_comes c call code {f = going (expr_end names pc e + 1) st around} _ (peel w m t text class locals result call code h e pc st around s _ (has_front code pc (def.default_code names h function n pc (Some e)) _ has) (λ a y has'. acts c call code has'.0 here)) (λ y.
         rest (expr_end names pc e + 1) y (has_behind code _ (default_length names h function n (Some e) pc) has))
 
     defaults_do : (function : ℕ) (signature : Signature) (n : ℕ) (ps : List Param) (pc : ℕ) → Goes pc (def.defaults_code names h function n pc ps) (def.defaults_end names pc ps) (set_defaults c call function signature n ps)
@@ -167,7 +167,7 @@ module _ (w : World) (m : ℕ) (t : ModuleText) (text : text_of w m ≡ Some t) 
     members_do : (k : Option ℕ) (body : Statements) (pc : ℕ) → Goes pc (def.members_code names h k pc body) (def.members_end names k pc body) (members c call k body)
     members_do k x.end_of_statements pc s has = record { by = here }
     members_do k (x.more_statements (x.On line kind) rest) pc s has =
-        then_on_comes c call code _ (then_on_comes c call code _ (begins line pc s (has.0, tt)) (λ y. member_does k kind (pc + 1) y (has_front code (pc + 1) (def.member_code names h k (pc + 1) kind) _ has.1))) (λ y.
+        then_on_comes c call code _ (then_on_comes c call code {f = going (pc + 1) st around} _ (begins line pc s (has.0, tt)) (λ y. member_does k kind (pc + 1) y (has_front code (pc + 1) (def.member_code names h k (pc + 1) kind) _ has.1))) (λ y.
         members_do k rest (def.member_end names k (pc + 1) kind) y (has_behind code _ (member_length names h k kind (pc + 1)) has.1))
 
     base_does : (o : Option Expression) (pc : ℕ) → Goes pc (def.base_code names h pc o) (def.base_end names pc o) (read_base c call o)

@@ -1,5 +1,5 @@
 -- The code of an expression does what the expression means.
-use Rattle.std.proofs.Common.{◌≡◌, ℕ, zero, suc, ◌+◌, ◌*◌, List, [], ◌∷◌, ◌++◌, map, length, Option, Some, None, Bool, true, false, refl, sym, ap, ◌∙◌, subst, append_assoc}
+use Rattle.std.proofs.Common.{◌≡◌, ℕ, ◌+◌, ◌*◌, List, [], ◌∷◌, ◌++◌, length, Option, Some, None, Bool, true, false, refl, sym, ap, ◌∙◌, subst, append_assoc}
 use Rattle.std.specs.Prelude.{slice_get, codes}
 use Rattle.std.specs.Str.{bytes_eq}
 use Rattle.py_tree.specs.Syntax as x
@@ -21,22 +21,21 @@ use Rattle.py_meaning.specs.Boundaries.{Origin}
 use Rattle.py_meaning.specs.Names.{read_name}
 use Rattle.py_meaning.specs.Arguments.{Argument}
 use Rattle.py_meaning.specs.Classes.{Found}
-use Rattle.py_meaning.specs.Calls.{Oracle, own_class, found_or_init, super_call, reached, is_instance}
-use Rattle.py_meaning.specs.Expressions.{Form, Plain, Super, Static, form_of, converted, call_by, in_turn, called, eval, eval_all, eval_last, eval_pairs, eval_arguments, eval_keywords, last_origin, made_dict}
+use Rattle.py_meaning.specs.Calls.{Oracle, found_or_init, super_call, reached, is_instance}
+use Rattle.py_meaning.specs.Expressions.{Form, Plain, Super, Static, converted, call_by, in_turn, called, eval, eval_all, eval_last, eval_pairs, eval_arguments, eval_keywords, last_origin, made_dict}
 use Rattle.bytecode.specs.declared.instr.Cell.{Cell}
 use Rattle.bytecode.specs.declared.instr.Handler.{Handler}
 use Rattle.bytecode.specs.declared.instr.Instr.TheVariants as i
 use Rattle.bytecode.specs.declared.instr.Shape.{Shape}
-use Rattle.bytecode.specs.Callings.{arguments, ask_call, ask_base, base_method, is_receiver}
+use Rattle.bytecode.specs.Callings.{arguments, ask_call, ask_base, base_method}
 use Rattle.bytecode.specs.Moves.{Open, pairs, top, Asks, Pushes}
-use Rattle.bytecode.specs.Moves as moves
-use Rattle.bytecode.specs.Blocks.{Config, At, thrown, after, going, pushing, testing, asking, land, Leads, here}
+use Rattle.bytecode.specs.Blocks.{Config, At, thrown, after, pushing, testing, asking, Leads, here}
 use Rattle.compile_plain.specs.Names.{Names, load, form_in}
 use Rattle.compile_plain.specs.Cells.{cell}
-use Rattle.compile_plain.specs.Expressions.{count, count_pairs, keyword_names, shape, base_end, base_code, static_end, static_code, call_end, call_code, expr_end, exprs_end, last_end, pairs_end, keywords_end, expr_code, exprs_code, last_code, pairs_code, keywords_code}
+use Rattle.compile_plain.specs.Expressions.{count, count_pairs, shape, base_end, base_code, static_end, static_code, call_end, call_code, expr_end, exprs_end, last_end, pairs_end, keywords_end, expr_code, exprs_code, last_code, pairs_code, keywords_code}
 use Rattle.compile_plain.proofs.Places.{HasAt, has_front, has_behind, Ends, joined, expr_length, exprs_length, last_length, pairs_length, keywords_length}
 use Rattle.compile_plain.proofs.Comes.{Meets, onto, onto_joined, Comes, chain, asks_both, both, then_comes, from, acts, takes_all, picks, cell_step, pushing_all}
-use Rattle.compile_plain.proofs.Sites.{site, names_at, Gets, loads, forms}
+use Rattle.compile_plain.proofs.Sites.{site, names_at, loads, forms}
 use Rattle.compile_plain.proofs.ArgumentBlocks.{values_of, values_joined, AreShaped, flat, pairs_again, counted, flat_counted, shaped_met}
 
 module _ (w : World) (m : ℕ) (t : ModuleText) (text : text_of w m ≡ Some t) (class : Option ℕ) (locals : Option (List Text)) (result : PyType) (call : Oracle) (code : List Cell) where

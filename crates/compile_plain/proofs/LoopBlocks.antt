@@ -17,9 +17,9 @@ use Rattle.py_meaning.proofs.FuelFalls.{Falls}
 use Rattle.py_meaning.proofs.Keeps.{Keeps}
 use Rattle.bytecode.specs.declared.instr.Cell.{Cell}
 use Rattle.bytecode.specs.declared.instr.Instr.TheVariants as i
-use Rattle.bytecode.specs.Iterators.{Iterator, Each, InList, InRange, InDict, Item, iterated, item_then, number_in, next_item}
+use Rattle.bytecode.specs.Iterators.{Iterator, Each, InList, InRange, InDict, Item, iterated, item_then, number_in}
 use Rattle.bytecode.specs.Moves.{Open, looping}
-use Rattle.bytecode.specs.Blocks.{Config, At, thrown, after, going, turning, opening, stepping, Leads, here}
+use Rattle.bytecode.specs.Blocks.{Config, At, thrown, after, going, turning, opening, stepping, here}
 use Rattle.compile_plain.specs.declared.targets.Targets.{Targets}
 use Rattle.compile_plain.specs.Cells.{cell, in_while, in_for}
 use Rattle.compile_plain.proofs.Comes.{Meets, Comes, both, from, acts, cell_step, flowing}

@@ -1,5 +1,5 @@
 -- Cells stand at their places, and the code of a tree ends where it is said to end.
-use Rattle.std.proofs.Common.{◌≡◌, ℕ, zero, suc, ◌+◌, List, [], ◌∷◌, ◌++◌, map, length, Option, Some, None, Bool, true, false, refl, subst, arith, length-append}
+use Rattle.std.proofs.Common.{◌≡◌, ℕ, suc, ◌+◌, List, [], ◌∷◌, ◌++◌, map, length, Option, Some, None, Bool, true, false, subst, arith, length-append}
 use Rattle.std.specs.Prelude.{slice_get, if◌then◌else◌}
 use Rattle.py_tree.specs.Syntax as x
 use Rattle.py_tree.specs.Syntax.{Text, Expression, Expressions, Pairs, Keywords, Param, Target, Kind, Statements, Branches, Clauses, Function, ClassDef}
@@ -17,7 +17,7 @@ use Rattle.bytecode.specs.declared.instr.Handler.{Handler}
 use Rattle.bytecode.specs.declared.instr.Shape.{Shape}
 use Rattle.compile_plain.specs.declared.targets.Targets.{Targets}
 use Rattle.compile_plain.specs.Names.{Names, line_in, form_in, function_place, class_place}
-use Rattle.compile_plain.specs.Cells.{cell, in_clauses, in_try, in_while, in_for, line_end, line_code}
+use Rattle.compile_plain.specs.Cells.{in_clauses, in_try, in_while, in_for, line_end, line_code}
 use Rattle.compile_plain.specs.Expressions.{shape, base_end, base_code, static_end, static_code, call_end, call_code, expr_end, exprs_end, last_end, pairs_end, keywords_end, expr_code, exprs_code, last_code, pairs_code, keywords_code}
 use Rattle.compile_plain.specs.Assignments.{store, assign_end, assign_code, augment_end, augment_code}
 use Rattle.compile_plain.specs.Definitions as def

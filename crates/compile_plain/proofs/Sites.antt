@@ -1,8 +1,8 @@
 -- Where code is written, and that its names are those of the scope that it is run in.
-use Rattle.std.proofs.Common.{◌≡◌, ℕ, zero, suc, ◌+◌, List, [], ◌∷◌, map, length, Option, Some, None, Bool, true, false, refl, sym, ap, ◌∙◌, subst, arith}
+use Rattle.std.proofs.Common.{◌≡◌, ℕ, suc, ◌+◌, List, [], ◌∷◌, map, length, Option, Some, None, Bool, true, false, refl, sym, ap, ◌∙◌, subst, arith}
 use Rattle.std.proofs.lemmas.Slice.Eq.{bytes_eq-Decides}
-use Rattle.std.specs.Prelude.{slice_get, if◌then◌else◌, cond, codes, ltb, not}
-use Rattle.std.specs.List.{position, position_or_len, list_any}
+use Rattle.std.specs.Prelude.{if◌then◌else◌, cond, codes, ltb, not}
+use Rattle.std.specs.List.{position, position_or_len}
 use Rattle.std.specs.Option.{option_map}
 use Rattle.std.specs.Str.{bytes_eq}
 use Rattle.py_tree.specs.Syntax as x
@@ -12,7 +12,6 @@ use Rattle.py_values.specs.declared.builtin.Builtin.{Builtin}
 use Rattle.py_values.specs.declared.exception.ExcKind.{ExcKind}
 use Rattle.py_values.specs.declared.exception.ExcKind.TheVariants as kind
 use Rattle.symbols.specs.Bindings.{globals}
-use Rattle.symbols.specs.SpecialNames.{is_super, module_context}
 use Rattle.symbols.specs.Words.{among, exception_named}
 use Rattle.gradual_types.specs.declared.facts.ClassFacts.{ClassFacts}
 use Rattle.gradual_types.specs.declared.py_type.PyType.{PyType}
@@ -20,16 +19,15 @@ use Rattle.gradual_types.specs.Values.{Value}
 use Rattle.gradual_types.specs.States.{State}
 use Rattle.py_meaning.specs.Acts.{Act}
 use Rattle.py_meaning.specs.Modules.{World, Setting, ModuleText, text_of}
-use Rattle.py_meaning.specs.Names.{is_local, is_global, read_local, read_global, read_special, read_builtin, read_name, set_name}
+use Rattle.py_meaning.specs.Names.{is_local, read_special, read_builtin, read_name, set_name}
 use Rattle.py_meaning.specs.Calls.{Oracle}
 use Rattle.py_meaning.specs.Exceptions.{unbind}
 use Rattle.py_meaning.specs.Definitions.{set_line, function_number, class_number}
 use Rattle.py_meaning.specs.Expressions.{static_name, form_of}
-use Rattle.bytecode.specs.declared.instr.Cell.{Cell}
 use Rattle.bytecode.specs.declared.instr.Handler.{Handler}
 use Rattle.bytecode.specs.declared.instr.Instr.{Instr}
 use Rattle.bytecode.specs.declared.instr.Instr.TheVariants as i
-use Rattle.bytecode.specs.declared.instr.Variable.TheVariants.{Local, Global, Named}
+use Rattle.bytecode.specs.declared.instr.Variable.TheVariants.{Local, Global}
 use Rattle.bytecode.specs.Scopes.{names_of_scope, name_at, set, with_variable}
 use Rattle.bytecode.specs.Moves.{Open, act, at_line, unbound}
 use Rattle.bytecode.specs.Blocks.{thrown, after, pushing, land}

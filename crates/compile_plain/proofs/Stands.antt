@@ -1,5 +1,5 @@
 -- The code of a module stands for its trees.
-use Rattle.std.proofs.Common.{◌≡◌, ℕ, zero, suc, List, [], ◌∷◌, ◌++◌, map, length, Option, Some, None, refl, sym, ap, ◌∙◌, subst}
+use Rattle.std.proofs.Common.{◌≡◌, ℕ, suc, List, [], ◌∷◌, ◌++◌, map, length, Option, Some, None, refl, sym, ap, ◌∙◌, subst}
 use Rattle.std.proofs.lemmas.List.{append_assoc, append-nil}
 use Rattle.std.proofs.lemmas.Option.{slice_get-map}
 use Rattle.std.specs.Prelude.{slice_get}
@@ -13,14 +13,13 @@ use Rattle.gradual_types.specs.declared.facts.ClassFacts.{ClassFacts}
 use Rattle.gradual_types.specs.declared.facts.Facts.{Facts}
 use Rattle.gradual_types.specs.declared.facts.Signature.{Signature}
 use Rattle.gradual_types.specs.declared.py_type.PyType.TheVariants.{Dynamic}
-use Rattle.py_meaning.specs.ModuleFacts.{signature, signatures, facts_of_class, facts_of_classes}
+use Rattle.py_meaning.specs.ModuleFacts.{signature, facts_of_class, facts_of_classes}
 use Rattle.py_meaning.specs.Modules.{World, ModuleText, FunctionIn, KnownFunction, functions, function_of, known_function, function_in, text_of}
 use Rattle.py_meaning.specs.Runs.{body_of}
 use Rattle.py_meaning.specs.Standing.{IsBlockOf, function_setting, function_job, body_job}
 use Rattle.py_meaning.specs.Runs.{body_setting}
 use Rattle.bytecode.specs.declared.instr.Cell.{Cell}
 use Rattle.bytecode.specs.Blocks.{Does}
-use Rattle.compile_plain.specs.Names.{Names}
 use Rattle.compile_plain.specs.Statements.{body_code}
 use Rattle.compile_plain.specs.Standing.{names_in, module_code, function_code, text_in, StandsIn}
 use Rattle.compile_plain.proofs.Sites.{names_at}

@@ -1,23 +1,21 @@
 -- The code of statements does what they mean.
-use Rattle.std.proofs.Common.{◌≡◌, ℕ, suc, ◌+◌, ◌≤◌, List, [], ◌∷◌, ◌++◌, length, Option, Some, None, Bool, true, false, refl, sym, subst, arith}
+use Rattle.std.proofs.Common.{◌≡◌, ℕ, suc, ◌+◌, ◌≤◌, List, [], ◌∷◌, ◌++◌, length, Option, Some, None, refl, sym, subst, arith}
 use Rattle.std.specs.Prelude.{slice_get}
 use Rattle.py_tree.specs.Syntax as x
 use Rattle.py_tree.specs.Syntax.{Text, Expression, Kind, Statements, Branches, Clauses}
 use Rattle.gradual_types.specs.declared.py_type.PyType.{PyType}
 use Rattle.gradual_types.specs.declared.py_type.PyType.TheVariants.{Dynamic}
-use Rattle.gradual_types.specs.Values as v
 use Rattle.gradual_types.specs.Values.{Value}
 use Rattle.gradual_types.specs.States.{State}
-use Rattle.py_meaning.specs.Acts.{Act, Run, Gives, Halts, Halt, Flow, On, Returned, Broke, Continued, and_then, ◌>>=◌, ◌>>◌, give, tick, choose}
+use Rattle.py_meaning.specs.Acts.{Act, Run, Gives, Halts, Halt, Flow, On, Returned, Broke, Continued, and_then, ◌>>=◌, ◌>>◌, give, tick}
 use Rattle.py_meaning.specs.Laws.{end_of}
 use Rattle.py_meaning.specs.Modules.{World, Setting, ModuleText, text_of, functions}
 use Rattle.py_meaning.specs.Looks.{look}
 use Rattle.py_meaning.specs.Operands.{truth}
 use Rattle.py_meaning.specs.Boundaries.{From, origin_of}
-use Rattle.py_meaning.specs.Iterables.{over, while_true}
 use Rattle.py_meaning.specs.Calls.{Oracle}
 use Rattle.py_meaning.specs.Expressions.{eval}
-use Rattle.py_meaning.specs.Targets.{assign, augment}
+use Rattle.py_meaning.specs.Targets.{assign}
 use Rattle.py_meaning.specs.Exceptions.{takes, in_clause}
 use Rattle.py_meaning.specs.Definitions.{set_line}
 use Rattle.py_meaning.specs.Statements.{then_on, exec, exec_all, exec_branches, exec_clauses}
@@ -27,23 +25,22 @@ use Rattle.py_meaning.proofs.FuelFalls.{Falls, lines_fall, tests_fall, blocks_fa
 use Rattle.bytecode.specs.declared.instr.Cell.{Cell}
 use Rattle.bytecode.specs.declared.instr.Handler.{Handler}
 use Rattle.bytecode.specs.declared.instr.Instr.TheVariants as i
-use Rattle.bytecode.specs.Iterators.{Iterator, iterated}
 use Rattle.bytecode.specs.Moves.{Open, looping, holding, innermost, at_line}
-use Rattle.bytecode.specs.Blocks.{Config, At, thrown, after, going, pushing, testing, turning, opening, Leads, here}
+use Rattle.bytecode.specs.Blocks.{Config, At, thrown, going, testing, here}
 use Rattle.compile_plain.specs.declared.targets.Targets.{Targets}
 use Rattle.compile_plain.specs.Names.{Names, line_in, maybe_variable}
 use Rattle.compile_plain.specs.Cells.{cell, in_clauses, in_try, in_while, in_for, line_end, line_code}
-use Rattle.compile_plain.specs.Expressions.{expr_end, expr_code}
+use Rattle.compile_plain.specs.Expressions.{expr_end}
 use Rattle.compile_plain.specs.Assignments.{assign_end, assign_code}
 use Rattle.compile_plain.specs.Statements.{kind_end, rows_end, branches_end, clauses_end, kind_code, rows_code, branches_code, clauses_code}
 use Rattle.compile_plain.proofs.Places.{HasAt, has_front, has_behind, expr_length, line_length, assign_length, kind_length, rows_length, branch_length, branches_length, clauses_length, joined, one_more, nothing_more}
-use Rattle.compile_plain.proofs.Comes.{Comes, chain, both, then_comes, then_on_comes, from, acts, cell_step, picks, flowing, extends}
+use Rattle.compile_plain.proofs.Comes.{Comes, then_comes, then_on_comes, from, acts, cell_step, picks, flowing, extends}
 use Rattle.compile_plain.proofs.Sites.{site, names_at, lines}
-use Rattle.compile_plain.proofs.ExpressionBlocks.{eval_gets, peel}
+use Rattle.compile_plain.proofs.ExpressionBlocks.{peel}
 use Rattle.compile_plain.proofs.AssignmentBlocks as assignment
 use Rattle.compile_plain.proofs.DefinitionBlocks as definition
 use Rattle.compile_plain.proofs.LoopBlocks.{while_does, looked_does}
-use Rattle.compile_plain.proofs.ClauseBlocks.{raises, raises_again, rescues_do, caught, taken_does}
+use Rattle.compile_plain.proofs.ClauseBlocks.{raises, raises_again, rescues_do, taken_does}
 
 left_is : (r : Run Value) → fuel_left r ≡ (end_of r).fuel
 left_is (Gives s a) = refl

@@ -7,7 +7,7 @@ use Rattle.symbols.specs.declared.class.Class.{Class}
 use Rattle.symbols.specs.declared.outer.Outer.{Outer}
 use Rattle.gradual_types.specs.declared.facts.Facts.{Facts}
 use Rattle.py_meaning.specs.ModuleFacts.{facts_of}
-use Rattle.py_meaning.specs.Modules.{ModuleText, Loaded, FunctionIn, functions}
+use Rattle.py_meaning.specs.Modules.{ModuleText, Loaded, FunctionIn}
 use Rattle.py_meaning.specs.Runs.{body_of}
 use Rattle.py_meaning.specs.Standing.{StandsFor}
 use Rattle.bytecode.specs.declared.instr.Cell.{Cell}

@@ -1,5 +1,5 @@
 -- The code of statements, and of whole bodies.
-use Rattle.std.specs.Prelude.{ℕ, ◌+◌, List, [], ◌∷◌, ◌++◌, Option, Some, None}
+use Rattle.std.specs.Prelude.{ℕ, ◌+◌, List, [], ◌∷◌, ◌++◌, Some, None}
 use Rattle.py_tree.specs.Syntax as x
 use Rattle.py_tree.specs.Syntax.{Kind, Statements, Branches, Clauses}
 use Rattle.bytecode.specs.declared.instr.Cell.{Cell}
