@@ -21,7 +21,7 @@ use Rattle.py_meaning.specs.Runs.{body_setting}
 use Rattle.bytecode.specs.declared.instr.Cell.{Cell}
 use Rattle.bytecode.specs.Blocks.{Does}
 use Rattle.compile_plain.specs.Statements.{body_code}
-use Rattle.compile_plain.specs.Standing.{names_in, module_code, function_code, text_in, StandsIn}
+use Rattle.compile_plain.specs.Standing.{names_in, module_code, function_code, text_in, CodeStands}
 use Rattle.compile_plain.proofs.Sites.{names_at}
 use Rattle.compile_plain.proofs.Whole.{block_of}
 
@@ -85,7 +85,7 @@ module _ (o : Outer) (tree : Statements) (others : List (Option Facts)) where
       let code : function_code o tree (record { function = f.function; class = f.class }) ≡ b = cc (same) in
       subst (λ b. IsBlockOf (List Cell) Does (function_setting w o.number f) (function_job w o.number f) b) code (function_stands w text f)
 
-pub code_stands : (o : Outer) (tree : Statements) → StandsIn o tree (module_code o tree) (map (function_code o tree) (functions tree))
+pub code_stands : CodeStands
 code_stands o tree others need images = record {
   as_many = as_long (function_code o tree) (functions tree);
   body = λ w a own. body_stands o tree others w a.text;

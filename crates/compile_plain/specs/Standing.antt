@@ -7,7 +7,7 @@ use Rattle.symbols.specs.declared.class.Class.{Class}
 use Rattle.symbols.specs.declared.outer.Outer.{Outer}
 use Rattle.gradual_types.specs.declared.facts.Facts.{Facts}
 use Rattle.py_meaning.specs.ModuleFacts.{facts_of}
-use Rattle.py_meaning.specs.Modules.{ModuleText, Loaded, FunctionIn}
+use Rattle.py_meaning.specs.Modules.{ModuleText, Loaded, FunctionIn, functions}
 use Rattle.py_meaning.specs.Runs.{body_of}
 use Rattle.py_meaning.specs.Standing.{StandsFor}
 use Rattle.bytecode.specs.declared.instr.Cell.{Cell}
@@ -33,3 +33,7 @@ text_in others o tree = record { tree = tree; facts = facts_of others o tree }
 abbrev pub StandsIn : Outer → Statements → List Cell → List (List Cell) → Type 0
 StandsIn o tree body blocks =
     (others : List (Option Facts)) (need : List ℕ) (images : List (Option Loaded)) → StandsFor (List Cell) Does o.number (text_in others o tree) need images body blocks
+
+-- the code of every module does
+abbrev pub CodeStands : Type 0
+CodeStands = (o : Outer) (tree : Statements) → StandsIn o tree (module_code o tree) (map (function_code o tree) (functions tree))
