@@ -73,10 +73,7 @@ pub enum Instr {
     /// An augmented assignment's operator, which may write to the left operand.
     Augment(BinaryOp),
     Compare(CompareOp),
-    Is {
-        negated: bool,
-        constant: Const,
-    },
+    Is { negated: bool, constant: Const },
     Not,
     /// Makes a primitive an int or a bool.
     Box,
@@ -115,14 +112,9 @@ pub enum Instr {
     /// Ends the innermost loop.
     EndLoop,
     /// Leaves so many clauses, and goes to the place.
-    Leave {
-        clauses: u32,
-        place: u32,
-    },
+    Leave { clauses: u32, place: u32 },
     /// Leaves so many clauses and the block with the top.
-    Return {
-        clauses: u32,
-    },
+    Return { clauses: u32 },
 
     /// Takes what stands behind a `raise`, and pushes the exception.
     Make,
@@ -143,10 +135,7 @@ pub enum Instr {
     ImportModule(Text, Variable),
     ImportMember(Member),
     /// Takes the default value of a parameter.
-    SetDefault {
-        function: u32,
-        parameter: u32,
-    },
+    SetDefault { function: u32, parameter: u32 },
     /// Pushes the module's function of that number.
     Function(u32),
     /// Pushes the module's class of that number.

@@ -57,12 +57,12 @@ module _ (w : World) (m : ℕ) (t : ModuleText) (text : text_of w m ≡ Some t) 
   -- the items that were gathered are as many as names, or it raises
   unpacks : (h : Handler) (ns : List Text) (pc : ℕ) (st : List Value) (around : Open) → HasAt code (pc + 1) (map (store names h) ns) → (r : Run (List Value))
       → Comes c call code (after (spreading (pc + 1) st around) (thrown c h around) (and_then r (λ values. choose (length values == length ns) (give values) (raise w kind.ValueError))))
-        (going (pc + 1 + length ns) st around) (thrown c h around) (and_then r (λ values. choose (length values == length ns) (assign_all c ns values) (raise w kind.ValueError)))
+      (going (pc + 1 + length ns) st around) (thrown c h around) (and_then r (λ values. choose (length values == length ns) (assign_all c ns values) (raise w kind.ValueError)))
   unpacks h ns pc st around has (Halts y why) = record { by = here }
   unpacks h ns pc st around has (Gives y values) = by (length values == length ns) refl where
     by : (b : Bool) → (length values == length ns) ≡ b
         → Comes c call code (after (spreading (pc + 1) st around) (thrown c h around) (choose b (give values) (raise w kind.ValueError) y))
-          (going (pc + 1 + length ns) st around) (thrown c h around) (choose b (assign_all c ns values) (raise w kind.ValueError) y)
+        (going (pc + 1 + length ns) st around) (thrown c h around) (choose b (assign_all c ns values) (raise w kind.ValueError) y)
     by true e = stores_all h ns values (pc + 1) st around y (grind (arith, e)) has
     by false e = record { by = here }
 

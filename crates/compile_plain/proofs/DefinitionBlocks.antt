@@ -82,7 +82,7 @@ module _ (w : World) (m : ℕ) (t : ModuleText) (text : text_of w m ≡ Some t) 
     default_does : (function : ℕ) (signature : Signature) (n : ℕ) (name : Text) (kind : Option Expression) (o : Option Expression) (ps : List Param) (pc : ℕ)
         → ((q : ℕ) → Goes q (def.defaults_code names h function (suc n) q ps) (def.defaults_end names q ps) (set_defaults c call function signature (suc n) ps))
         → Goes pc (def.default_code names h function n pc o ++ def.defaults_code names h function (suc n) (def.default_end names pc o) ps) (def.defaults_end names (def.default_end names pc o) ps)
-          (set_defaults c call function signature n (record { name = name; kind = kind; default = o } ∷ ps))
+        (set_defaults c call function signature n (record { name = name; kind = kind; default = o } ∷ ps))
     default_does function signature n name kind None ps pc rest s has = rest pc s has
     default_does function signature n name kind (Some e) ps pc rest s has =
         then_on_comes c call code {f = going (expr_end names pc e + 1) st around} _ (peel w m t text class locals result call code h e pc st around s _ (has_front code pc (def.default_code names h function n pc (Some e)) _ has) (λ a y has'. acts c call code has'.0 here)) (λ y.

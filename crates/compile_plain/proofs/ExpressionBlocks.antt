@@ -102,7 +102,7 @@ module _ (w : World) (m : ℕ) (t : ModuleText) (text : text_of w m ≡ Some t) 
 
     receiver_leads : (f : Found) → ((y : State) → Comes c call code (at y) go out (k f y)) → (above : ClassId) (r : Run Seen)
         → Leads c call code (after (λ u. at) out (and_then r (λ object. choose (is_instance w above object) done (type_error w) >> (found_or_init w name f >> done))))
-          (after go out (and_then r (λ object. choose (is_instance w above object) done (type_error w) >> (found_or_init w name f >>= k))))
+        (after go out (and_then r (λ object. choose (is_instance w above object) done (type_error w) >> (found_or_init w name f >>= k))))
     receiver_leads f i above (Gives y object) = checked_leads f i (is_instance w above object) y
     receiver_leads f i above (Halts y why) = here
 
@@ -112,7 +112,7 @@ module _ (w : World) (m : ℕ) (t : ModuleText) (text : text_of w m ≡ Some t) 
   reached_gets : (n : ℕ) (h : Handler) (args : Act (List Argument)) (s : Shape) → ((u : State) → Meets (λ all y. AreShaped s.positional s.keywords all) (args u)) → (cells : List Cell) (pc q : ℕ) (name : Text) (receiver : Value) → Ends pc cells q
       → GivesArguments w m t text (Some n) locals result call code h cells pc q args → (st : List Value) (around : Open) (u : State) → HasAt code pc (cells ++ cell h (i.CallBase name s) ∷ [])
       → Comes (site w m (Some n) locals result) call code (At pc (receiver ∷ st) around u) (pushing (q + 1) st around) (thrown (site w m (Some n) locals result) h around)
-        ((args >>= λ all. tick >> reached (site w m (Some n) locals result) call (id.User m n) receiver all (base_method w (id.User m n) name)) u)
+      ((args >>= λ all. tick >> reached (site w m (Some n) locals result) call (id.User m n) receiver all (base_method w (id.User m n) name)) u)
   reached_gets n h args s shaped cells pc q name receiver ends gets st around u has =
       let c = site w m (Some n) locals result in
       both c call code (λ all y. AreShaped s.positional s.keywords all) (args u) (shaped u) (gets (receiver ∷ st) around u (has_front code pc cells _ has)) (λ all y is.

@@ -308,7 +308,7 @@ module _ (names : Names) where
 
   pub branch_length : (k : Targets) (line : ℕ) (test : Expression) (body : Statements) (pc : ℕ) (jump last : Cell)
       → Ends pc (line_code k.raised (line_in names.locals line) ++ (expr_code names k.raised (line_end pc (line_in names.locals line)) test ++ (jump ∷ (rows_code names k (expr_end names (line_end pc (line_in names.locals line)) test + 1) body ++ last ∷ []))))
-        (rows_end names (expr_end names (line_end pc (line_in names.locals line)) test + 1) body + 1)
+      (rows_end names (expr_end names (line_end pc (line_in names.locals line)) test + 1) body + 1)
   branch_length k line test body pc jump last =
       let tested = line_end pc (line_in names.locals line) in
       let first = expr_end names tested test + 1 in
