@@ -56,7 +56,7 @@ fn outer(alloc: Global, count: u32) -> Result<Outer, AllocError> {
 fn below(module: &[u8]) -> u32 {
     let mut count: u32 = 0;
     for part in module.windows(3) {
-        if part == b"(m." {
+        if part == b"(m.".as_slice() {
             count = count.saturating_add(1);
         }
     }
