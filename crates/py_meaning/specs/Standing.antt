@@ -80,8 +80,10 @@ module _ (Block : Type 0) (Does : Setting → Block → Oracle → State → Run
     pub body : (w : World) → Admits m t need images w → is_own w m ≡ true → IsBlockOf (body_setting w m) (body_job w m t.tree) body_block
     pub each_function : (w : World) → Admits m t need images w → (n : ℕ) (f : KnownFunction) (b : Block) → function_of w m n ≡ Some f → slice_get blocks n ≡ Some b → IsBlockOf (function_setting w m f) (function_job w m f) b
 
-  -- Of an image: its facts are those of its trees, and its code stands for them. Types come later: no tree has a fault of types, and no place
+  -- Of an image: its facts are those of its trees, its code stands for them, and what its program carries beside the blocks, as tables of its
+  -- classes, is that of its text: `Fits` says when it is, of whatever kind it is. Types come later: no tree has a fault of types, and no place
   -- has a type.
-  pub record ImageStands (m : ℕ) (l : Loaded) (need : List ℕ) (images : List (Option Loaded)) (body_block : Block) (blocks : List Block) : Type 0 where
+  pub record ImageStands (Tables : Type 0) (Fits : Tables → ModuleText → Type 0) (m : ℕ) (l : Loaded) (need : List ℕ) (images : List (Option Loaded)) (body_block : Block) (blocks : List Block) (tables : Tables) : Type 0 where
     pub facts : AreFactsOf images m l.tree l.image.facts
     pub code : StandsFor m (record { tree = l.tree; facts = l.image.facts }) need images body_block blocks
+    pub carried : Fits tables (record { tree = l.tree; facts = l.image.facts })
