@@ -13,7 +13,7 @@ use py_tree::text::Text;
 use std::alloc::{AllocError, Global};
 
 /// The bindings of a block and of the blocks in it. The bodies of defs and classes are other scopes.
-pub(crate) fn bindings_of(alloc: Global, body: &[Stmt]) -> Result<Bindings, AllocError>
+pub fn bindings_of(alloc: Global, body: &[Stmt]) -> Result<Bindings, AllocError>
     ensures { IfOk result (λ all. all ≡ spec.bindings (statements_of body.now)) }
 {
     let mut all = Bindings::from_vec(Vec::with_capacity(alloc, body.len())?);

@@ -7,7 +7,6 @@ ghost use Rattle.symbols.specs.Names.{found, with_names};
 ghost use Rattle.symbols.specs.SpecialNames.{static_in, static_under};
 
 use crate::binding::{Binding, StaticName};
-use crate::context::Statics;
 use crate::name_map::NameMap;
 use crate::names::Names;
 use crate::resolved::ModuleKind;
@@ -62,11 +61,11 @@ fn add_bound<'a>(bindings: &'a [Binding], names: &mut Names<'a>) -> Result<(), A
 }
 
 /// What a module of this kind with these bindings binds to static names.
-pub(crate) fn statics_of(
+pub fn statics_of(
     alloc: Global,
     kind: ModuleKind,
     bindings: &[Binding],
-) -> Result<Statics<'_>, AllocError>
+) -> Result<NameMap<'_, StaticName>, AllocError>
     ensures { IfOk result (λ statics. (name : Name) → found statics name ≡ static_in kind bindings.now name) }
 {
     let mut statics = NameMap::new(alloc);

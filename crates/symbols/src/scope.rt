@@ -7,7 +7,7 @@ use py_tree::statement::{Branch, Clause, Stmt, StmtKind};
 use std::alloc::{AllocError, Global};
 
 /// The statements of a block and of the blocks in it, each before its own blocks. The bodies of defs and classes are other scopes.
-pub(crate) fn scope_of(alloc: Global, body: &[Stmt]) -> Result<Vec<&Stmt>, AllocError>
+pub fn scope_of(alloc: Global, body: &[Stmt]) -> Result<Vec<&Stmt>, AllocError>
     ensures { IfOk result (λ all. seen all.items ≡ of_scope (statements_of body.now)) }
 {
     let mut all = Vec::with_capacity(alloc, body.len())?;

@@ -125,7 +125,7 @@ pub(crate) fn is_value_faulty(e: &Option<Boxed<Expr>>, context: &Context<'_>, ar
 }
 
 /// Whether it is `super()`.
-fn is_super(e: &Expr) -> bool
+pub fn is_super(e: &Expr) -> bool
     ensures { result ≡ spec.is_super (expression_of e.now) }
 {
     match e {

@@ -96,7 +96,7 @@ pub(crate) fn is_builtin(name: &Text) -> bool
 }
 
 /// The exception class of that name.
-pub(crate) fn exception_of(name: &Text) -> Option<ExcKind>
+pub fn exception_of(name: &Text) -> Option<ExcKind>
     ensures { result ≡ spec.exception_named name.now }
 {
     exception_among(name, &EXCEPTIONS)
