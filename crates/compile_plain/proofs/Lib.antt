@@ -10,3 +10,4 @@ pub mod ClauseBlocks
 pub mod StatementBlocks
 pub mod Whole
 pub mod Stands
+pub mod Forward

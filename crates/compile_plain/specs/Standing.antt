@@ -1,5 +1,5 @@
--- The code of a module stands for its trees.
-use Rattle.std.specs.Prelude.{ℕ, List, map, Option, Some, None}
+-- The code of a module stands for its trees, and leads forward.
+use Rattle.std.specs.Prelude.{◌≡◌, ℕ, true, List, map, Option, Some, None}
 use Rattle.py_tree.specs.Syntax.{Text, Statements}
 use Rattle.symbols.specs.Bindings.{locals}
 use Rattle.symbols.specs.Classes.{classes}
@@ -12,6 +12,7 @@ use Rattle.py_meaning.specs.Runs.{body_of}
 use Rattle.py_meaning.specs.Standing.{StandsFor}
 use Rattle.bytecode.specs.declared.instr.Cell.{Cell}
 use Rattle.bytecode.specs.Blocks.{Does}
+use Rattle.bytecode.specs.Forward.{forwards}
 use Rattle.compile_plain.specs.Names.{Names}
 use Rattle.compile_plain.specs.Statements.{body_code}
 
@@ -37,3 +38,7 @@ StandsIn o tree body blocks =
 -- the code of every module does
 abbrev pub CodeStands : Type 0
 CodeStands = (o : Outer) (tree : Statements) → StandsIn o tree (module_code o tree) (map (function_code o tree) (functions tree))
+
+-- the code of every body leads forward: only a loop's turn leads back
+abbrev pub BodiesForward : Type 0
+BodiesForward = (names : Names) (body : Statements) → forwards 0 (body_code names body) ≡ true
