@@ -1,6 +1,6 @@
 #!/usr/bin/env python3
-"""Proves and builds strictone, runs it on folders on disk, and compares the bytes that it writes and its exit status with those
-that the rules give. Run it with no words. It exits 1 where a row differs.
+"""Proves and builds strictone and strictload, runs both on folders on disk, and compares the bytes that they write and their exit status with
+those that the rules give. Run it with no words. It exits 1 where a row differs.
 
 Rows of two kinds lie beside it. verdicts.txt has a module's text and what is decided of it, with a tab between them. There
 the picture of a control character (U+2400 and the 31 behind it) stands for that character, and `~N~TEXT~` for so many times that text.
@@ -9,8 +9,7 @@ import os, subprocess, sys, tempfile
 
 HERE = os.path.dirname(os.path.abspath(__file__))
 TOP = os.path.dirname(HERE)
-CRATE = os.path.join(TOP, "crates", "strictone")
-PROGRAM = os.path.join(CRATE, "out", "strictone")
+PROGRAMS = ["strictone", "strictload"]
 M = b"import __strict__\n"
 
 # The files of the folder `d`, the words, the bytes on standard output, the exit status.
@@ -81,13 +80,19 @@ def folders():
                 files[head[5:]] = (text and text + "\n").encode()
 
 
-def prove():
-    """Proves and builds the program."""
-    if os.path.exists(PROGRAM):
-        os.remove(PROGRAM)
-    done = subprocess.run(["rt", "run", "--"], cwd=CRATE, stdin=subprocess.DEVNULL, stdout=subprocess.PIPE, stderr=subprocess.STDOUT)
-    if not os.path.exists(PROGRAM):
-        sys.exit(done.stdout.decode() + "tests/program.py: the program isn't proved")
+def path_of(program):
+    return os.path.join(TOP, "crates", program, "out", program)
+
+
+def prove(program):
+    """Proves and builds a program."""
+    path = path_of(program)
+    if os.path.exists(path):
+        os.remove(path)
+    crate = os.path.join(TOP, "crates", program)
+    done = subprocess.run(["rt", "run", "--"], cwd=crate, stdin=subprocess.DEVNULL, stdout=subprocess.PIPE, stderr=subprocess.STDOUT)
+    if not os.path.exists(path):
+        sys.exit(done.stdout.decode() + f"tests/program.py: {program} isn't proved")
 
 
 def make(top, files):
@@ -105,26 +110,35 @@ def differs(name, got, want):
     return 1
 
 
-def run(top, words, stdout):
-    done = subprocess.run([PROGRAM, *words], cwd=top, stdin=subprocess.DEVNULL, stdout=stdout, stderr=subprocess.PIPE)
+def run(program, top, words, stdout):
+    done = subprocess.run([path_of(program), *words], cwd=top, stdin=subprocess.DEVNULL, stdout=stdout, stderr=subprocess.PIPE)
     return done.stdout, done.returncode, done.stderr
 
 
-prove()
-wrong, rows = 0, {**ROWS, **dict(verdicts()), **dict(folders())}
-for name, (files, words, output, status) in rows.items():
+def wrong_rows(program, rows):
+    """How many rows the program gets wrong."""
+    wrong = 0
+    for name, (files, words, output, status) in rows.items():
+        with tempfile.TemporaryDirectory() as top:
+            make(top, files)
+            wrong += differs(f"{program}: {name}", run(program, top, words, subprocess.PIPE), (output, status, b""))
+    with open(os.path.join(TOP, "examples", "service.txt"), "rb") as report:
+        got = run(program, TOP, ["examples/service"], subprocess.PIPE)
+        wrong += differs(f"{program}: examples/service", got, (report.read(), 2, b""))
     with tempfile.TemporaryDirectory() as top:
-        make(top, files)
-        wrong += differs(name, run(top, words, subprocess.PIPE), (output, status, b""))
-with open(os.path.join(TOP, "examples", "service.txt"), "rb") as report:
-    wrong += differs("examples/service", run(TOP, ["examples/service"], subprocess.PIPE), (report.read(), 2, b""))
-with tempfile.TemporaryDirectory() as top:
-    make(top, {"a.py": M})
-    with open("/dev/full", "wb") as full:
-        wrong += differs("a full output", run(top, ["d"], full), (None, 5, b""))
-    reader, writer = os.pipe()
-    os.close(reader)
-    wrong += differs("a closed output", run(top, ["d"], writer), (None, 5, b""))
-    os.close(writer)
-print(f"tests/program.py: {len(rows) + 3 - wrong} rows as they must be, {wrong} not")
+        make(top, {"a.py": M})
+        with open("/dev/full", "wb") as full:
+            wrong += differs(f"{program}: a full output", run(program, top, ["d"], full), (None, 5, b""))
+        reader, writer = os.pipe()
+        os.close(reader)
+        wrong += differs(f"{program}: a closed output", run(program, top, ["d"], writer), (None, 5, b""))
+        os.close(writer)
+    return wrong
+
+
+wrong, rows = 0, {**ROWS, **dict(verdicts()), **dict(folders())}
+for program in PROGRAMS:
+    prove(program)
+    wrong += wrong_rows(program, rows)
+print(f"tests/program.py: {len(PROGRAMS) * (len(rows) + 3) - wrong} rows as they must be, {wrong} not")
 sys.exit(1 if wrong else 0)

@@ -8,4 +8,6 @@ mod held_gate;
 #[cfg(test)]
 mod loaders;
 #[cfg(test)]
+mod runs;
+#[cfg(test)]
 mod shared;

@@ -2,6 +2,7 @@
 #![tactic(auto)]
 
 mod alone;
+mod beside;
 pub mod modules;
 mod reading;
 mod report;

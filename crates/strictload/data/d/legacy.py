@@ -1,0 +1,1 @@
+NAME = "not strict"

@@ -1,0 +1,3 @@
+import __strict__
+import rates
+BASE = 1000

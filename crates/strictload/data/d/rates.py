@@ -1,0 +1,2 @@
+import __strict__
+VAT = 20

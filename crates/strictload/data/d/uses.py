@@ -1,0 +1,2 @@
+import __strict__
+from left import X
