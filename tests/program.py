@@ -1,6 +1,6 @@
 #!/usr/bin/env python3
-"""Proves and builds strictone and strictload, runs both on folders on disk, and compares the bytes that they write and their exit status with
-those that the rules give. Run it with no words. It exits 1 where a row differs.
+"""Takes strictone and strictload as the gate has built them, or proves and builds them, runs both on folders on disk, and compares the bytes
+that they write and their exit status with those that the rules give. Run it with no words. It exits 1 where a row differs.
 
 Rows of two kinds lie beside it. verdicts.txt has a module's text and what is decided of it, with a tab between them. There
 the picture of a control character (U+2400 and the 31 behind it) stands for that character, and `~N~TEXT~` for so many times that text.
@@ -84,9 +84,23 @@ def path_of(program):
     return os.path.join(TOP, "crates", program, "out", program)
 
 
+def is_current(path):
+    """Whether the program is there and no source is newer, as where the gate has just built it."""
+    if not os.path.exists(path):
+        return False
+    made = os.path.getmtime(path)
+    sources = [os.path.join(TOP, "crates.txt")]
+    for top, folders, files in os.walk(os.path.join(TOP, "crates")):
+        folders[:] = [folder for folder in folders if folder != "out"]
+        sources += [os.path.join(top, name) for name in files if name.endswith((".rt", ".antt"))]
+    return all(os.path.getmtime(source) <= made for source in sources)
+
+
 def prove(program):
-    """Proves and builds a program."""
+    """Proves and builds a program, where the one that is there isn't current."""
     path = path_of(program)
+    if is_current(path):
+        return
     if os.path.exists(path):
         os.remove(path)
     crate = os.path.join(TOP, "crates", program)
