@@ -4,3 +4,4 @@ pub mod Scopes
 pub mod Moves
 pub mod Blocks
 pub mod Forward
+pub mod Empty

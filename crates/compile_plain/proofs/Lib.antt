@@ -1,4 +1,11 @@
 pub mod Places
+pub mod Counts
+pub mod Lasts
+pub mod Chains
+pub mod CallTrees
+pub mod Positions
+pub mod ClassNames
+pub mod FunctionLocals
 pub mod Comes
 pub mod Sites
 pub mod ArgumentBlocks
@@ -10,4 +17,5 @@ pub mod ClauseBlocks
 pub mod StatementBlocks
 pub mod Whole
 pub mod Stands
+pub mod Compiled
 pub mod Forward

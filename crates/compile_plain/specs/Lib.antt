@@ -5,3 +5,7 @@ pub mod Assignments
 pub mod Definitions
 pub mod Statements
 pub mod Standing
+pub mod Trees
+pub mod Tables
+pub mod Forms
+pub mod Scopes
