@@ -7,7 +7,7 @@ ghost use Rattle.symbols.specs.Functions.{function_locals};
 ghost use Rattle.symbols.specs.Views.{seen};
 ghost use Rattle.symbols.specs.declared.outer.Outer.{Outer};
 ghost use Rattle.py_meaning.specs.Modules.{functions as spec_functions};
-ghost use Rattle.compile_plain.specs.Standing.{StandsIn};
+ghost use Rattle.compile_plain.specs.Standing.{StandsIn, function_code};
 ghost use Rattle.compile_plain.specs.Statements.{body_code};
 ghost use Rattle.compile_plain.specs.Tables.{blocks_of, code_in, codes_of, function_in, own_names, targets_at};
 ghost use Rattle.compile_plain.specs.Scopes.{names_of, tree_of};
@@ -60,6 +60,54 @@ pub fn compile_body(alloc: Global, resolved: &Resolved) -> Result<Program, Alloc
         body: compile_own(alloc, &names, body)?,
         functions: compile_all(alloc, resolved, &names, functions.as_slice())?,
     })
+}
+
+/// The code of the function with that number.
+pub fn compile_function(
+    alloc: Global,
+    resolved: &Resolved,
+    number: u32,
+) -> Result<CodeBlock, AllocError>
+    requires resolved { (o : Outer) × IsResolved o resolved.now.tree resolved.now }
+    requires number { number < length (spec_functions (module_of resolved.now.tree)) }
+    // It is the one with that number of those that stand for the functions.
+    ensures { IfOk result (λ block. (o : Outer) → slice_get (map (function_code o (module_of resolved.now.tree)) (spec_functions (module_of resolved.now.tree))) number ≡ Some block.cells) }
+{
+    let body = resolved.tree.body.as_slice();
+    let bindings = bindings_of(alloc, body)?;
+    let scope = scope_of(alloc, body)?;
+    let functions = functions_of(alloc, scope.as_slice())?;
+    let names = module_names(
+        alloc,
+        resolved,
+        bindings.as_slice(),
+        scope.as_slice(),
+        functions.as_slice(),
+    )?;
+    compile_numbered(
+        alloc,
+        resolved,
+        &names,
+        functions.as_slice(),
+        number as usize,
+    )
+}
+
+/// The code of the function at a place among the module's functions.
+fn compile_numbered(
+    alloc: Global,
+    resolved: &Resolved,
+    names: &ModuleNames<'_>,
+    functions: &[FunctionIn<'_>],
+    number: usize,
+) -> Result<CodeBlock, AllocError>
+    requires locals { resolved.now.functions ≡ function_locals (tree_of names.now) }
+    requires functions { map function_in functions.now ≡ spec_functions (tree_of names.now) }
+    requires number { number < length (spec_functions (tree_of names.now)) }
+    ensures { IfOk result (λ block. (o : Outer) → slice_get (map (function_code o (tree_of names.now)) (spec_functions (tree_of names.now))) number ≡ Some block.cells) }
+{
+    let locals = &resolved.functions.at(number).locals;
+    compile_known(alloc, names, functions[number], locals)
 }
 
 /// The names of a module that was resolved, with these bindings, statements and functions.
